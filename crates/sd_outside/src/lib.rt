@@ -1,0 +1,23 @@
+//! What every layer stands on: bytes, lists, addresses and packets, and the traits of the outside.
+//!
+//! A source or a sink may tell the bytes that it has left or that were written, and it counts its faults.
+//! It answers `Failed` only where that count rose in the call, and no count ever falls.
+//! The calm objects in memory never fail.
+#![tactic(auto)]
+
+mod bytes;
+mod calm;
+mod copying;
+mod errors;
+mod fhandle;
+mod list;
+mod packet;
+mod streams;
+
+pub use bytes::ByteList;
+pub use calm::{CalmSink, CalmSource};
+pub use errors::{Failed, NoMemory};
+pub use fhandle::FHandle;
+pub use list::ListOf;
+pub use packet::{Addr, Mac, Packet};
+pub use streams::{Sink, Source};
