@@ -51,3 +51,11 @@ pub record IsFor (c : Config) (client : ClientConfig) : Type 0 where
   pub tries : client.tries ≡ c.tries
   pub wait : client.wait ≡ c.wait
   pub pages : client.pages ≡ c.pages
+
+-- the ranges of what a client is given
+pub record IsClientConfig (client : ClientConfig) : Type 0 where
+  pub mac : IsMac client.mac
+  pub life : IsWithin 2 10000 client.life
+  pub tries : IsWithin 1 64 client.tries
+  pub wait : IsWithin 1 1000 client.wait
+  pub pages : IsWithin 1 4095 client.pages

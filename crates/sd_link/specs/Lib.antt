@@ -5,6 +5,7 @@ pub mod Reply
 pub mod Steps
 pub mod Parts
 pub mod Link
+pub mod Texts
 pub mod Runs
 pub mod Text
 pub mod Lawful

@@ -1,6 +1,6 @@
 //! What a script's configuration lines say, and what of it the client is given.
 ghost use Rattle.std.specs.Prelude.{IfOk};
-ghost use Rattle.sd_link.specs.Config.{IsFor};
+ghost use Rattle.sd_link.specs.Config.{IsConfig, IsFor, IsClientConfig};
 
 use sd_outside::{ByteList, Mac, NoMemory};
 use std::alloc::Global;
@@ -55,7 +55,9 @@ pub struct ClientConfig {
 impl Config {
     /// What the client of this configuration is given.
     pub fn client(&self, _alloc: Global) -> Result<ClientConfig, NoMemory>
-        ensures { IfOk result (λ client. IsFor self.now client) }
+        requires { IsConfig self.now }
+        ensures same { IfOk result (λ client. IsFor self.now client) }
+        ensures rules { IfOk result IsClientConfig }
     {
         Ok(ClientConfig {
             mac: self.client.mac,
