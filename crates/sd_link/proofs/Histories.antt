@@ -1,0 +1,127 @@
+-- Steps one after another, and histories that go on.
+use Rattle.std.proofs.Common.{◌≡◌, ℕ, ◌+◌, ◌<◌, ◌≤◌, List, [], ◌∷◌, ◌++◌, Option, Some, None, slice_get, refl, sym, ◌∙◌, ap, subst, arith, append_assoc}
+use Rattle.std.proofs.lemmas.List.{append-nil}
+use Rattle.sd_outside.specs.declared.packet.Packet.{Packet}
+use Rattle.sd_link.specs.declared.config.Config.{Config}
+use Rattle.sd_link.specs.World.{World, Flying, start}
+use Rattle.sd_link.specs.Steps.{Step, Tick, Send, Serve, Get, Entry, after, entries_of, run, AllAllowed, record_of, served, History, world_of, IsLawfulSoFar}
+use Rattle.sd_link.specs.Parts.{sends_in, got_in, ticks_in}
+use Rattle.sd_link.specs.Link.{GoesOn, Moves, TicksBefore}
+use Rattle.sd_link.specs.Events.{Fates}
+use Rattle.sd_link.specs.Lawful.{AllInTurn}
+
+-- ---- lists of steps
+
+pub run-append : (c : Config) (w : World) (xs ys : List Step) → run c w (xs ++ ys) ≡ run c (run c w xs) ys
+run-append c w [] ys = refl
+run-append c w (x ∷ xs) ys = run-append c (after c w x) xs ys
+
+pub allowed-append : (c : Config) (w : World) (xs ys : List Step) → AllAllowed c w xs → AllAllowed c (run c w xs) ys → AllAllowed c w (xs ++ ys)
+allowed-append c w [] ys first second = second
+allowed-append c w (x ∷ xs) ys first second = (first.0, allowed-append c (after c w x) xs ys first.1 second)
+
+pub record-append : (c : Config) (w : World) (xs ys : List Step) → record_of c w (xs ++ ys) ≡ record_of c w xs ++ record_of c (run c w xs) ys
+record-append c w [] ys = refl
+record-append c w (x ∷ xs) ys =
+    ap (λ (l : List Entry). entries_of c w x ++ l) (record-append c (after c w x) xs ys)
+    ∙ sym (append_assoc (entries_of c w x) (record_of c (after c w x) xs) (record_of c (run c (after c w x) xs) ys))
+
+pub sends-append : (xs ys : List Step) → sends_in (xs ++ ys) ≡ sends_in xs ++ sends_in ys
+sends-append [] ys = refl
+sends-append (Tick ∷ xs) ys = sends-append xs ys
+sends-append (Send packet ∷ xs) ys = ap (λ (l : List Packet). packet ∷ l) (sends-append xs ys)
+sends-append (Serve id ∷ xs) ys = sends-append xs ys
+sends-append (Get id packet ∷ xs) ys = sends-append xs ys
+
+pub got-append : (xs ys : List Step) → got_in (xs ++ ys) ≡ got_in xs ++ got_in ys
+got-append [] ys = refl
+got-append (Tick ∷ xs) ys = got-append xs ys
+got-append (Send packet ∷ xs) ys = got-append xs ys
+got-append (Serve id ∷ xs) ys = got-append xs ys
+got-append (Get id packet ∷ xs) ys = ap (λ (l : List Packet). packet ∷ l) (got-append xs ys)
+
+pub ticks-append : (xs ys : List Step) → ticks_in (xs ++ ys) ≡ ticks_in xs + ticks_in ys
+ticks-append [] ys = omega arith
+ticks-append (Tick ∷ xs) ys = omega (arith, ticks-append xs ys)
+ticks-append (Send packet ∷ xs) ys = ticks-append xs ys
+ticks-append (Serve id ∷ xs) ys = ticks-append xs ys
+ticks-append (Get id packet ∷ xs) ys = ticks-append xs ys
+
+pub tick-served : (c : Config) (w : World) (f : Option Flying) → (served c w f).tick ≡ w.tick
+tick-served c w None = refl
+tick-served c w (Some f) = refl
+
+-- the tick grows by one with each Tick, and by nothing else
+pub tick-run : (c : Config) (w : World) (xs : List Step) → (run c w xs).tick ≡ w.tick + ticks_in xs
+tick-run c w [] = omega arith
+tick-run c w (Tick ∷ xs) = omega (arith, tick-run c (after c w Tick) xs)
+tick-run c w (Send packet ∷ xs) = tick-run c (after c w (Send packet)) xs
+tick-run c w (Serve id ∷ xs) =
+    tick-run c (after c w (Serve id)) xs ∙ ap (λ (t : ℕ). t + ticks_in xs) (tick-served c w _)
+tick-run c w (Get id packet ∷ xs) = tick-run c w xs
+
+pub before-append : (until : ℕ) (c : Config) (w : World) (xs ys : List Step) → TicksBefore until c w xs → TicksBefore until c (run c w xs) ys → TicksBefore until c w (xs ++ ys)
+before-append until c w [] ys first second = second
+before-append until c w (Tick ∷ xs) ys first second = (first.0, before-append until c (after c w Tick) xs ys first.1 second)
+before-append until c w (Send packet ∷ xs) ys first second = before-append until c (after c w (Send packet)) xs ys first second
+before-append until c w (Serve id ∷ xs) ys first second = before-append until c (after c w (Serve id)) xs ys first second
+before-append until c w (Get id packet ∷ xs) ys first second = before-append until c (after c w (Get id packet)) xs ys first second
+
+-- ticks that all begin before a moment don't pass it
+pub before-bound : (until : ℕ) (c : Config) (w : World) (xs : List Step) → w.tick ≤ until → TicksBefore until c w xs → (run c w xs).tick ≤ until
+before-bound until c w [] le h = le
+before-bound until c w (Tick ∷ xs) le h = before-bound until c (after c w Tick) xs (omega (arith, h.0)) h.1
+before-bound until c w (Send packet ∷ xs) le h = before-bound until c (after c w (Send packet)) xs le h
+before-bound until c w (Serve id ∷ xs) le h = before-bound until c (after c w (Serve id)) xs (omega (arith, tick-served c w (slice_get w.flight id))) h
+before-bound until c w (Get id packet ∷ xs) le h = before-bound until c w xs le h
+
+-- ---- histories
+
+pub goes_nowhere : (h : History) → GoesOn h h []
+goes_nowhere h = record { config = refl; steps = sym (append-nil h.steps); lawful = λ l. l }
+
+pub goes_then : (a b c : History) (xs ys : List Step) → GoesOn a b xs → GoesOn b c ys → GoesOn a c (xs ++ ys)
+goes_then a b c xs ys first second = record {
+  config = second.config ∙ first.config;
+  steps = second.steps ∙ ap (λ (l : List Step). l ++ ys) first.steps ∙ append_assoc a.steps xs ys;
+  lawful = λ l. second.lawful (first.lawful l);
+}
+
+-- the world moves by the part
+pub world-goes : (a b : History) (xs : List Step) → GoesOn a b xs → world_of b ≡ run a.config (world_of a) xs
+world-goes a b xs goes =
+    ap (λ (c : Config). run c (start c) b.steps) goes.config
+    ∙ ap (λ (l : List Step). run a.config (start a.config) l) goes.steps
+    ∙ run-append a.config (start a.config) a.steps xs
+
+-- ---- what links tell
+
+pub moves_not : (told : Option History) (P : History → List Step → Type 0) → ((h : History) → P h []) → Moves told told P
+moves_not None P here = tt
+moves_not (Some h) P here = ([], goes_nowhere h, here h)
+
+pub moves_weaker : (old new : Option History) (P Q : History → List Step → Type 0) → ((h : History) (part : List Step) → P h part → Q h part) → Moves old new P → Moves old new Q
+moves_weaker None None P Q so m = tt
+moves_weaker None (Some new) P Q so m = absurd m
+moves_weaker (Some old) None P Q so m = absurd m
+moves_weaker (Some old) (Some new) P Q so m = (m.0, m.1, so old m.0 m.2)
+
+-- one part after another
+pub moves_then : (old mid new : Option History) (P Q R : History → List Step → Type 0)
+    → ((a b : History) (xs ys : List Step) → GoesOn a b xs → P a xs → Q b ys → R a (xs ++ ys))
+    → Moves old mid P → Moves mid new Q → Moves old new R
+moves_then None None None P Q R so first second = tt
+moves_then None None (Some new) P Q R so first second = absurd second
+moves_then None (Some mid) new P Q R so first second = absurd first
+moves_then (Some old) None new P Q R so first second = absurd first
+moves_then (Some old) (Some mid) None P Q R so first second = absurd second
+moves_then (Some old) (Some mid) (Some new) P Q R so first second =
+    (first.0 ++ second.0, goes_then old mid new first.0 second.0 first.1 second.1, so old mid first.0 second.0 first.1 first.2 second.2)
+
+-- ---- turns
+
+-- steps in their turn, after steps in theirs
+pub in_turn-append : (c : Config) (fates : Fates) (w : World) (entries : List Entry) (xs ys : List Step) → AllInTurn c fates w entries xs → AllInTurn c fates (run c w xs) (entries ++ record_of c w xs) ys → AllInTurn c fates w entries (xs ++ ys)
+in_turn-append c fates w entries [] ys first second = subst (λ l. AllInTurn c fates w l ys) (append-nil entries) second
+in_turn-append c fates w entries (x ∷ xs) ys first second =
+    (first.0, in_turn-append c fates (after c w x) (entries ++ entries_of c w x) xs ys first.1 (subst (λ l. AllInTurn c fates (run c (after c w x) xs) l ys) (sym (append_assoc entries (entries_of c w x) (record_of c (after c w x) xs))) second))

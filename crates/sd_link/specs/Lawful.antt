@@ -1,0 +1,67 @@
+-- What the network owes a script: each packet comes at the ticks that its fate says, once for each, in order.
+-- Within a tick the server is given first what is due to it, and then the client sends and gets.
+use Rattle.std.specs.Prelude.{◌≡◌, ℕ, ◌+◌, List, [], ◌∷◌, ◌++◌, map, filter, Bool, ◌==◌, if◌then◌else◌}
+use Rattle.std.specs.List.{flat_map, enumerate_from}
+use Rattle.sd_outside.specs.declared.packet.Packet.{Packet}
+use Rattle.sd_link.specs.declared.config.Config.{Config}
+use Rattle.sd_link.specs.Events.{Fates}
+use Rattle.sd_link.specs.World.{World, Flying, Sender, start}
+use Rattle.sd_link.specs.Steps.{Step, Tick, Send, Serve, Get, Entry, Sent, Served, Got, after, entries_of, AllAllowed, goes_to_server, goes_to_client}
+
+-- the front is where the whole begins
+abbrev pub IsFrontOf : {A : Type 0} → List A → List A → Type 0
+IsFrontOf {A} front whole = (rest : List A) × (front ++ rest ≡ whole)
+
+-- a copy for each delay that ends at this tick
+abbrev pub copies_at : ℕ → List ℕ → ℕ × Flying → List ℕ
+copies_at tick delays e = map (λ d. e.0) (filter (λ d. e.1.tick + d == tick) delays)
+
+-- the ids of the copies that are due at a tick, in order of the ids and then of the fates
+abbrev pub due : (Sender → Packet → Bool) → Fates → List Flying → ℕ → List ℕ
+due goes fates flight tick = flat_map (λ e. if goes e.1.from e.1.packet then copies_at tick (fates e.0) e else []) (enumerate_from 0 flight)
+
+-- the ids that came to the server, and to the client, at a tick
+abbrev pub served_at : ℕ → List Entry → List ℕ
+served_at tick [] = []
+served_at tick (Sent t id packet ∷ entries) = served_at tick entries
+served_at tick (Served t id ∷ entries) = if t == tick then id ∷ served_at tick entries else served_at tick entries
+served_at tick (Got t id ∷ entries) = served_at tick entries
+
+abbrev pub got_at : ℕ → List Entry → List ℕ
+got_at tick [] = []
+got_at tick (Sent t id packet ∷ entries) = got_at tick entries
+got_at tick (Served t id ∷ entries) = got_at tick entries
+got_at tick (Got t id ∷ entries) = if t == tick then id ∷ got_at tick entries else got_at tick entries
+
+-- what is due at the present tick
+abbrev pub due_to_server : Config → Fates → World → List ℕ
+due_to_server c fates w = due (goes_to_server c) fates w.flight w.tick
+
+abbrev pub due_to_client : Config → Fates → World → List ℕ
+due_to_client c fates w = due (goes_to_client c) fates w.flight w.tick
+
+-- all that is due has come
+abbrev pub AllServed : Config → Fates → World → List Entry → Type 0
+AllServed c fates w entries = served_at w.tick entries ≡ due_to_server c fates w
+
+abbrev pub AllGot : Config → Fates → World → List Entry → Type 0
+AllGot c fates w entries = got_at w.tick entries ≡ due_to_client c fates w
+
+-- Whether it is the turn of a step, after the record so far.
+abbrev pub InTurn : Config → Fates → World → List Entry → Step → Type 0
+-- time goes on once all that is due has come
+InTurn c fates w entries Tick = AllServed c fates w entries × AllGot c fates w entries
+-- the server is given the next that is due
+InTurn c fates w entries (Serve id) = IsFrontOf (served_at w.tick entries ++ id ∷ []) (due_to_server c fates w)
+-- the client sends, and gets the next that is due, once the server was given all
+InTurn c fates w entries (Send packet) = AllServed c fates w entries
+InTurn c fates w entries (Get id packet) = AllServed c fates w entries × IsFrontOf (got_at w.tick entries ++ id ∷ []) (due_to_client c fates w)
+
+abbrev pub AllInTurn : Config → Fates → World → List Entry → List Step → Type 0
+AllInTurn c fates w entries [] = Unit {0}
+AllInTurn c fates w entries (step ∷ steps) = InTurn c fates w entries step × AllInTurn c fates (after c w step) (entries ++ entries_of c w step) steps
+
+-- each step may happen, and comes in its turn
+pub record IsLawful (c : Config) (fates : Fates) (steps : List Step) : Type 0 where
+  pub allowed : AllAllowed c (start c) steps
+  pub in_turn : AllInTurn c fates (start c) [] steps

@@ -1,0 +1,11 @@
+pub mod Config
+pub mod Events
+pub mod World
+pub mod Reply
+pub mod Steps
+pub mod Parts
+pub mod Link
+pub mod Texts
+pub mod Runs
+pub mod Text
+pub mod Lawful

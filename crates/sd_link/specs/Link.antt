@@ -1,0 +1,76 @@
+-- What each call of a link does to the history that it tells.
+use Rattle.std.specs.Prelude.{◌≡◌, ◌⊎◌, ℕ, ◌+◌, ◌-◌, ◌^◌, ◌<◌, ◌≤◌, min, max, length, List, [], ◌∷◌, ◌++◌, Option, Some, None, Result, Ok, Err, IfOk, IsErrOf, IfSome}
+use Rattle.sd_outside.specs.declared.packet.Packet.{Packet}
+use Rattle.sd_outside.specs.Causes.{Rose}
+use Rattle.sd_link.specs.declared.link.LinkError.{LinkError}
+use Rattle.sd_link.specs.declared.link.LinkError.TheVariants.{Failed, NoMemory}
+use Rattle.sd_link.specs.declared.config.Config.{Config}
+use Rattle.sd_link.specs.World.{World}
+use Rattle.sd_link.specs.Steps.{Step, Tick, Send, Serve, Get, History, after, run, world_of, IsLawfulSoFar}
+use Rattle.sd_link.specs.Parts.{sends_in, got_in}
+
+-- The history goes on by this part, whose steps may all happen, under the same configuration.
+pub record GoesOn (old new : History) (part : List Step) : Type 0 where
+  pub config : new.config ≡ old.config
+  pub steps : new.steps ≡ old.steps ++ part
+  pub lawful : IsLawfulSoFar old → IsLawfulSoFar new
+
+-- A link that tells goes on telling, and its history goes on by a part of which P holds.
+abbrev pub Moves : Option History → Option History → (History → List Step → Type 0) → Type 0
+Moves None None P = Unit {0}
+Moves (Some old) (Some new) P = (part : List Step) × GoesOn old new part × P old part
+Moves None (Some new) P = ⊥
+Moves (Some old) None P = ⊥
+
+-- no tick and no id passes this
+abbrev pub last_tick : ℕ
+last_tick = 2 ^ 62
+
+pub record IsBounded (h : History) : Type 0 where
+  pub tick : (world_of h).tick ≤ last_tick
+  pub ids : length (world_of h).flight ≤ last_tick
+
+-- the tick that a told history stands at
+abbrev pub IsNow : Option History → ℕ → Type 0
+IsNow told now = IfSome told (λ h. now ≡ (world_of h).tick)
+
+-- a send: the packet goes into flight, and nothing else happens
+abbrev pub Sends : Packet → Result (Unit {0}) LinkError → History → List Step → Type 0
+Sends packet (Ok done) old part = part ≡ Send packet ∷ []
+Sends packet (Err NoMemory) old part = part ≡ []
+Sends packet (Err Failed) old part = (part ≡ []) ⊎ (part ≡ Send packet ∷ [])
+
+-- each tick of the part begins before this one
+abbrev pub TicksBefore : ℕ → Config → World → List Step → Type 0
+TicksBefore until c w [] = Unit {0}
+TicksBefore until c w (Tick ∷ steps) = (w.tick < until) × TicksBefore until c (after c w Tick) steps
+TicksBefore until c w (Send packet ∷ steps) = TicksBefore until c (after c w (Send packet)) steps
+TicksBefore until c w (Serve id ∷ steps) = TicksBefore until c (after c w (Serve id)) steps
+TicksBefore until c w (Get id packet ∷ steps) = TicksBefore until c (after c w (Get id packet)) steps
+
+-- What came of the waiting: a packet is got by the last step alone, and none where none is handed out.
+abbrev pub Hands : ℕ → Result (Option Packet) LinkError → History → List Step → Type 0
+Hands until (Ok (Some packet)) old part = (before : List Step) × (id : ℕ) × (part ≡ before ++ Get id packet ∷ []) × (got_in before ≡ [])
+Hands until (Ok None) old part = (got_in part ≡ []) × (until ≤ (run old.config (world_of old) part).tick)
+Hands until (Err why) old part = got_in part ≡ []
+
+-- a wait until this tick: the client sends nothing, and no tick passes from then on
+pub record Receives (until : ℕ) (result : Result (Option Packet) LinkError) (old : History) (part : List Step) : Type 0 where
+  pub silent : sends_in part ≡ []
+  pub ticks : TicksBefore until old.config (world_of old) part
+  pub hands : Hands until result old part
+
+-- `Failed` comes only where the count of faults rose
+pub record LinkCause {T : Type 0} (before now : ℕ) (result : Result T LinkError) : Type 0 where
+  pub later : before ≤ now
+  pub failed : IsErrOf result Failed → Rose before now
+
+-- one more packet was handed out, until the count stands at the greatest u64
+abbrev pub Counts : ℕ → ℕ → Result (Option Packet) LinkError → Type 0
+Counts before now (Ok (Some packet)) = now ≡ max before (min (before + 1) (2 ^ 64 - 1))
+Counts before now (Ok None) = now ≡ before
+Counts before now (Err why) = now ≡ before
+
+-- what a drain adds to the text is what it gave
+abbrev pub Drains : List ℕ → List ℕ → List ℕ → List ℕ → Type 0
+Drains old new text_old text_new = (added : List ℕ) × (new ≡ old ++ added) × (text_new ≡ text_old ++ added)
