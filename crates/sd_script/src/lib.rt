@@ -1,0 +1,25 @@
+//! The texts of scripts, byte runs and packets.
+#![tactic(auto)]
+
+mod draft;
+mod error;
+mod fields;
+mod laws;
+mod limits;
+mod lines;
+mod packets;
+mod parts;
+mod read;
+mod runs;
+mod script;
+mod values;
+
+pub use error::{PacketLineError, RunsError, ScriptError};
+pub use laws::{one_reading, packet_lines_are_read_again, runs_are_read_again};
+pub use packets::{read_packet_line, write_packet_line};
+pub use read::read_script;
+pub use runs::{read_runs, write_runs};
+pub use script::{Command, CommandList, Script};
+
+#[cfg(test)]
+mod tests;
