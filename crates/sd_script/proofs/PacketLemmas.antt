@@ -1,5 +1,5 @@
 -- The texts of packets.
-use Rattle.std.proofs.Common.{◌≡◌, ℕ, List, ◌∷◌, ◌++◌, Result, Ok, Err, inl, inr, refl, ap, sym, ◌∙◌, subst, append_assoc}
+use Rattle.std.proofs.Common.{◌≡◌, ℕ, List, [], ◌∷◌, ◌++◌, Result, Ok, Err, inl, inr, refl, ap, sym, ◌∙◌, subst, append_assoc}
 use Rattle.std.specs.Prelude.{codes}
 use Rattle.sd_outside.specs.declared.packet.Addr.{Addr}
 use Rattle.sd_outside.specs.declared.packet.Packet.{Packet}
@@ -11,9 +11,10 @@ use Rattle.sd_script.specs.Texts.{fields, IsNumber, IsIp, IsAddr}
 use Rattle.sd_link.specs.Runs.{runs_text}
 use Rattle.sd_script.specs.Runs.{IsRunsWithin}
 use Rattle.sd_script.specs.Reading.{Reads}
-use Rattle.sd_link.specs.Text.{packet_text}
+use Rattle.sd_link.specs.Text.{packet_text, entry_text}
+use Rattle.sd_link.specs.Steps as steps
 use Rattle.sd_script.specs.Packets.{IsFrameLine, IsUdpLine, IsPacketLine}
-use Rattle.sd_script.specs.PacketWriting.{head_of_udp}
+use Rattle.sd_script.specs.PacketWriting.{head_of_udp, head_of_sent}
 use Rattle.sd_script.specs.Writing.{AppendsFront}
 use Rattle.sd_script.proofs.Exits.{firsts, others}
 use Rattle.sd_script.proofs.NumberLemmas.{one_number}
@@ -48,6 +49,27 @@ front_behind old mid new head rest e a = record {
   parts = rw (a.parts, append_assoc) refl;
   appended = a.appended ∙ rw (e, append_assoc) refl;
 }
+
+-- the same, where more follows
+pub front_within : (old mid new head rest more whole : Text) → mid ≡ old ++ head → whole ≡ head ++ (rest ++ more) → AppendsFront mid new rest → AppendsFront old new whole
+front_within old mid new head rest more whole e is a = record {
+  front = head ++ a.front;
+  rest = a.rest ++ more;
+  parts = is ∙ rw (a.parts, append_assoc, append_assoc) refl;
+  appended = a.appended ∙ rw (e, append_assoc) refl;
+}
+
+-- all but the last part of the whole is written
+pub front_before : (old mid last new head rest more whole : Text) → mid ≡ old ++ head → whole ≡ head ++ (rest ++ more) → last ≡ mid ++ rest → new ≡ last → AppendsFront old new whole
+front_before old mid last new head rest more whole e is written same = record {
+  front = head ++ rest;
+  rest = more;
+  parts = is ∙ sym (append_assoc head rest more);
+  appended = same ∙ written ∙ rw (e, append_assoc) refl;
+}
+
+pub sent_text : (tick id : ℕ) (packet : Packet) → entry_text (steps.Sent tick id packet) ≡ head_of_sent tick id ++ (packet_text packet ++ (10 ∷ []))
+sent_text tick id packet = simp append_assoc
 
 -- a line is that of one packet
 

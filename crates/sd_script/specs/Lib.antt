@@ -11,3 +11,4 @@ pub mod Judging
 pub mod RunReading
 pub mod PacketWriting
 pub mod Values
+pub mod Answers

@@ -1,9 +1,7 @@
 //! The text of a packet.
 
 ghost use Rattle.std.specs.Prelude.{◌≡◌, ◌++◌, IfOk, IfErr, OnOk, OnErr};
-ghost use Rattle.std.specs.Fmt.{decimal};
 ghost use Rattle.sd_script.specs.Reading.{Reads};
-ghost use Rattle.sd_link.specs.Texts.{ip_text, addr_text};
 ghost use Rattle.sd_script.specs.PacketWriting.{head_of_udp};
 ghost use Rattle.sd_script.specs.Writing.{AppendsFront};
 ghost use Rattle.sd_link.specs.Text.{packet_text};
@@ -14,6 +12,7 @@ use crate::fields::{take_addr, take_end, take_runs};
 use crate::parts::Parts;
 use crate::runs::write_runs;
 use crate::values::same_text;
+use crate::writing::addr_list;
 use sd_outside::{Addr, ByteList, NoMemory, Packet};
 use std::alloc::Global;
 
@@ -63,39 +62,6 @@ pub fn read_packet_line(alloc: Global, text: &[u8]) -> Result<Packet, PacketLine
         Err(LineError::Outside) => Err(PacketLineError::BadPacket),
         Err(LineError::NoMemory) => Err(PacketLineError::NoMemory),
     }
-}
-
-/// Adds the text of a number.
-fn push_number(alloc: Global, text: &mut ByteList, number: u64) -> Result<(), NoMemory>
-    ensures { OnOk result (text.new ≡ text.old ++ decimal number) }
-{
-    text.push_slice(number.to_string(alloc)?.as_bytes())
-}
-
-/// The text of an address.
-fn ip_list(alloc: Global, ip: u32) -> Result<ByteList, NoMemory>
-    ensures { IfOk result (λ text. text ≡ ip_text ip) }
-{
-    let [a, b, c, d] = ip.to_be_bytes();
-    let mut text = ByteList::empty(alloc);
-    push_number(alloc, &mut text, u64::from(a))?;
-    text.push_slice(b".")?;
-    push_number(alloc, &mut text, u64::from(b))?;
-    text.push_slice(b".")?;
-    push_number(alloc, &mut text, u64::from(c))?;
-    text.push_slice(b".")?;
-    push_number(alloc, &mut text, u64::from(d))?;
-    Ok(text)
-}
-
-/// The text of an address and a port.
-fn addr_list(alloc: Global, addr: Addr) -> Result<ByteList, NoMemory>
-    ensures { IfOk result (λ text. text ≡ addr_text addr) }
-{
-    let mut text = ip_list(alloc, addr.ip)?;
-    text.push_slice(b":")?;
-    push_number(alloc, &mut text, u64::from(addr.port))?;
-    Ok(text)
 }
 
 /// What stands before the bytes in the text of a datagram.
