@@ -14,3 +14,4 @@ pub mod ReadBack
 pub mod OneLine
 pub mod OneScript
 pub mod RuleLemmas
+pub mod IdLemmas

@@ -89,7 +89,7 @@ fate_one : (old : Draft) (args : List Text) (a b : Draft) → FateLine old args 
 fate_one old args a b x y =
     let e = sym x.text ∙ y.text in
     let id : x.fate.id ≡ y.fate.id = same_number 0 4294967295 x.fate.id y.fate.id (firsts e) x.is_id y.is_id in
-    let delays : x.fate.delays ≡ y.fate.delays = delays_one old.script.config.life x.fate.delays y.fate.delays (others e) x.are_delays y.are_delays in
+    let delays : x.fate.delays ≡ y.fate.delays = delays_one old.config.life x.fate.delays y.fate.delays (others e) x.are_delays y.are_delays in
     let same : x.fate ≡ y.fate = λ k. record { id = id k; delays = delays k } in
     x.means ∙ rw same (sym y.means)
 

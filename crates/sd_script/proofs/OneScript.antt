@@ -6,7 +6,7 @@ use Rattle.sd_script.specs.declared.draft.Draft.{Draft}
 use Rattle.sd_script.specs.declared.script.Script.{Script}
 use Rattle.sd_link.specs.Texts.{Text}
 use Rattle.sd_script.specs.Limits.{input_limit}
-use Rattle.sd_script.specs.Grammar.{lines, without_feed, IsLine, Leads, blank, IsWhole, Says, IsScript, IsRefusedLine, EndsEarly, IsFirstOutside}
+use Rattle.sd_script.specs.Grammar.{lines, without_feed, IsLine, Leads, blank, script_of, IsWhole, Says, IsScript, IsRefusedLine, EndsEarly, IsFirstOutside}
 use Rattle.sd_script.proofs.OneLine.{line_one}
 use Rattle.sd_script.proofs.Exits.{firsts, others}
 
@@ -62,7 +62,7 @@ refused_stops text n all r t = stops r.before r.line r.after r.draft all r.says 
 pub one_script : (text : Text) (a b : Script) → IsScript text a → IsScript text b → a ≡ b
 one_script text a b x y =
     let same = Leads-one blank (lines text) x.draft y.draft x.says.leads y.says.leads in
-    x.means ∙ ap (λ (d : Draft). d.script) same ∙ sym y.means
+    x.means ∙ ap script_of same ∙ sym y.means
 
 early_draft : (text : Text) (n : ℕ) (draft : Draft) → EndsEarly text n → Says (lines text) draft → IsWhole draft.section → ⊥
 early_draft text n draft e s whole =

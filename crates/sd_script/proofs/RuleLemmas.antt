@@ -22,7 +22,7 @@ use Rattle.sd_script.specs.declared.draft.Word.TheVariants as words
 use Rattle.sd_script.specs.Limits.{command_limit}
 use Rattle.sd_script.specs.Texts.{IsNumber, IsMac}
 use Rattle.sd_script.specs.Lines.{IsMachine, Differ, LifeLine, TriesLine, WaitLine, PagesLine, ServerLine, ClientLine, MayBeEvent, MayBeCommand, IsDelays, FateLine, AddsCommand, AddrLine, WaitCommandLine, with_config, with_fate, with_command}
-use Rattle.sd_script.specs.Grammar.{WordLine, IsLine, Leads, without_feed, blank, IsWhole, IsScript}
+use Rattle.sd_script.specs.Grammar.{WordLine, IsLine, Leads, without_feed, blank, script_of, IsWhole, IsScript}
 use Rattle.sd_script.specs.Rules.{IsCommand, KeepsRules}
 
 -- how many lines of the heading stand before a section
@@ -48,11 +48,11 @@ record IsHeaded (n : ℕ) (c : Config) : Type 0 where
 
 -- the rules so far
 record KeepsSoFar (d : Draft) : Type 0 where
-  headed : IsHeaded (stage d.section) d.script.config
-  early : stage d.section < 6 → d.script.events.fates ≡ []
-  fates : All (IsFate d.script.config.life) d.script.events.fates
-  commands : All IsCommand d.script.commands
-  few : length d.script.commands ≤ command_limit
+  headed : IsHeaded (stage d.section) d.config
+  early : stage d.section < 6 → d.fates ≡ []
+  fates : All (IsFate d.config.life) d.fates
+  commands : All IsCommand d.commands
+  few : length d.commands ≤ command_limit
 
 within : (least most : ℕ) {text : Text} {n : ℕ} → IsNumber least most text n → IsWithin least most n
 within least most h = (h.low, h.high)
@@ -72,20 +72,20 @@ heads : (old : Draft) (section : Section) (c : Config) → KeepsSoFar old → st
 heads old section c k early h = record {
   headed = h;
   early = λ _. k.early early;
-  fates = none (IsFate c.life) old.script.events.fates (k.early early);
+  fates = none (IsFate c.life) old.fates (k.early early);
   commands = k.commands;
   few = k.few;
 }
 
 -- the lines of the heading that came, where the next is at this place
-came : (old : Draft) (section : Section) → old.section ≡ section → KeepsSoFar old → IsHeaded (stage section) old.script.config
-came old section at k = subst (λ s. IsHeaded (stage s) old.script.config) at k.headed
+came : (old : Draft) (section : Section) → old.section ≡ section → KeepsSoFar old → IsHeaded (stage section) old.config
+came old section at k = subst (λ s. IsHeaded (stage s) old.config) at k.headed
 
 early_at : (old : Draft) (section : Section) → old.section ≡ section → stage section < 6 → stage old.section < 6
 early_at old section at h = subst (λ s. stage s < 6) (sym at) h
 
 life_kept : (old : Draft) (args : List Text) (new : Draft) → LifeLine old args new → KeepsSoFar old → KeepsSoFar new
-life_kept old args new l k = subst KeepsSoFar (sym l.means) (heads old sections.Tries (record old.script.config { life = l.life }) k (early_at old sections.Life l.place (omega arith)) record {
+life_kept old args new l k = subst KeepsSoFar (sym l.means) (heads old sections.Tries (record old.config { life = l.life }) k (early_at old sections.Life l.place (omega arith)) record {
   life = λ _. within 2 10000 l.number;
   tries = λ h. absurd (omega (arith, h));
   wait = λ h. absurd (omega (arith, h));
@@ -97,7 +97,7 @@ life_kept old args new l k = subst KeepsSoFar (sym l.means) (heads old sections.
 tries_kept : (old : Draft) (args : List Text) (new : Draft) → TriesLine old args new → KeepsSoFar old → KeepsSoFar new
 tries_kept old args new l k =
     let c = came old sections.Tries l.place k in
-    subst KeepsSoFar (sym l.means) (heads old sections.Wait (record old.script.config { tries = l.tries }) k (early_at old sections.Tries l.place (omega arith)) record {
+    subst KeepsSoFar (sym l.means) (heads old sections.Wait (record old.config { tries = l.tries }) k (early_at old sections.Tries l.place (omega arith)) record {
       life = λ _. c.life (omega arith);
       tries = λ _. within 1 64 l.number;
       wait = λ h. absurd (omega (arith, h));
@@ -109,7 +109,7 @@ tries_kept old args new l k =
 wait_kept : (old : Draft) (args : List Text) (new : Draft) → WaitLine old args new → KeepsSoFar old → KeepsSoFar new
 wait_kept old args new l k =
     let c = came old sections.Wait l.place k in
-    subst KeepsSoFar (sym l.means) (heads old sections.Pages (record old.script.config { wait = l.wait }) k (early_at old sections.Wait l.place (omega arith)) record {
+    subst KeepsSoFar (sym l.means) (heads old sections.Pages (record old.config { wait = l.wait }) k (early_at old sections.Wait l.place (omega arith)) record {
       life = λ _. c.life (omega arith);
       tries = λ _. c.tries (omega arith);
       wait = λ _. within 1 1000 l.number;
@@ -121,7 +121,7 @@ wait_kept old args new l k =
 pages_kept : (old : Draft) (args : List Text) (new : Draft) → PagesLine old args new → KeepsSoFar old → KeepsSoFar new
 pages_kept old args new l k =
     let c = came old sections.Pages l.place k in
-    subst KeepsSoFar (sym l.means) (heads old sections.Server (record old.script.config { pages = l.pages }) k (early_at old sections.Pages l.place (omega arith)) record {
+    subst KeepsSoFar (sym l.means) (heads old sections.Server (record old.config { pages = l.pages }) k (early_at old sections.Pages l.place (omega arith)) record {
       life = λ _. c.life (omega arith);
       tries = λ _. c.tries (omega arith);
       wait = λ _. c.wait (omega arith);
@@ -133,7 +133,7 @@ pages_kept old args new l k =
 server_kept : (old : Draft) (args : List Text) (new : Draft) → ServerLine old args new → KeepsSoFar old → KeepsSoFar new
 server_kept old args new l k =
     let c = came old sections.Server l.place k in
-    subst KeepsSoFar (sym l.means) (heads old sections.Client (record old.script.config { server = l.server }) k (early_at old sections.Server l.place (omega arith)) record {
+    subst KeepsSoFar (sym l.means) (heads old sections.Client (record old.config { server = l.server }) k (early_at old sections.Server l.place (omega arith)) record {
       life = λ _. c.life (omega arith);
       tries = λ _. c.tries (omega arith);
       wait = λ _. c.wait (omega arith);
@@ -151,8 +151,8 @@ client_kept old args new l k =
     let pages = c.pages (omega arith) in
     let server = c.server (omega arith) in
     let client = machine_kept l.client l.machine in
-    let other = old.script.config.server in
-    subst KeepsSoFar (sym l.means) (heads old sections.Config (record old.script.config { client = l.client; domain = l.domain; router = l.router }) k (early_at old sections.Client l.place (omega arith)) record {
+    let other = old.config.server in
+    subst KeepsSoFar (sym l.means) (heads old sections.Config (record old.config { client = l.client; domain = l.domain; router = l.router }) k (early_at old sections.Client l.place (omega arith)) record {
       life = λ _. life;
       tries = λ _. tries;
       wait = λ _. wait;
@@ -195,18 +195,18 @@ whole_at_event s m = elim m [ inl e ↦ ap stage e | inr e ↦ ap stage e ]
 whole_at_command : (s : Section) → MayBeCommand s → stage s ≡ 6
 whole_at_command s m = elim m [ inl e ↦ ap stage e | inr f ↦ elim f [ inl e ↦ ap stage e | inr e ↦ ap stage e ] ]
 
-headed_on : (old : Draft) → stage old.section ≡ 6 → KeepsSoFar old → IsHeaded 6 old.script.config
-headed_on old at k = subst (λ n. IsHeaded n old.script.config) at k.headed
+headed_on : (old : Draft) → stage old.section ≡ 6 → KeepsSoFar old → IsHeaded 6 old.config
+headed_on old at k = subst (λ n. IsHeaded n old.config) at k.headed
 
 fate_kept : (old : Draft) (args : List Text) (new : Draft) → FateLine old args new → KeepsSoFar old → KeepsSoFar new
 fate_kept old args new l k =
     let at = whole_at_event old.section l.place in
-    let is = fate_ok old.script.config.life l.delays l.fate l.is_id.high l.are_delays in
-    let P = IsFate old.script.config.life in
+    let is = fate_ok old.config.life l.delays l.fate l.is_id.high l.are_delays in
+    let P = IsFate old.config.life in
     let kept : KeepsSoFar (with_fate old l.fate) = record {
       headed = headed_on old at k;
       early = λ h. absurd (omega (arith, h));
-      fates = All-append P old.script.events.fates (l.fate ∷ []) k.fates (All-cons P l.fate [] is (All-nil P));
+      fates = All-append P old.fates (l.fate ∷ []) k.fates (All-cons P l.fate [] is (All-nil P));
       commands = k.commands;
       few = k.few;
     } in
@@ -219,8 +219,8 @@ adds_kept old command new is l k =
       headed = headed_on old at k;
       early = λ h. absurd (omega (arith, h));
       fates = k.fates;
-      commands = All-append IsCommand old.script.commands (command ∷ []) k.commands (All-cons IsCommand command [] is (All-nil IsCommand));
-      few = omega (arith, l.count, length-append old.script.commands (command ∷ []));
+      commands = All-append IsCommand old.commands (command ∷ []) k.commands (All-cons IsCommand command [] is (All-nil IsCommand));
+      few = omega (arith, l.count, length-append old.commands (command ∷ []));
     } in
     subst KeepsSoFar (sym l.means) kept
 
@@ -261,5 +261,5 @@ pub keeps_rules : (text : Text) (script : Script) → IsScript text script → K
 keeps_rules text script s =
     let k = leads_kept blank _ s.draft s.says.leads blank_kept in
     let at = whole_at_command s.draft.section s.whole in
-    let kept : KeepsRules s.draft.script = record { config = (headed_on s.draft at k).whole (omega arith); events = record { fates = k.fates }; commands = k.commands; few = k.few } in
+    let kept : KeepsRules (script_of s.draft) = record { config = (headed_on s.draft at k).whole (omega arith); events = record { fates = k.fates }; commands = k.commands; few = k.few } in
     subst KeepsRules (sym s.means) kept

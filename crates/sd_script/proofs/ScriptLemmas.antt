@@ -6,7 +6,7 @@ use Rattle.std.proofs.lemmas.Bool.{cases_Bool}
 use Rattle.sd_script.specs.declared.draft.Draft.{Draft}
 use Rattle.sd_link.specs.Texts.{Text}
 use Rattle.sd_script.specs.Limits.{input_limit}
-use Rattle.sd_script.specs.Grammar.{lines, without_feed, IsLine, Leads, blank, IsWhole, Says, IsScript, IsFirstOutside}
+use Rattle.sd_script.specs.Grammar.{lines, without_feed, IsLine, Leads, blank, script_of, IsWhole, Says, IsScript, IsFirstOutside}
 
 -- how many bytes come before the first line feed
 abbrev pub feed : Text → ℕ
@@ -112,7 +112,7 @@ refused_here text rest draft number line after s next why =
 lines_all : (text rest : Text) (before : List Text) → rest ≡ [] → lines text ≡ before ++ lines rest → lines text ≡ before
 lines_all text rest before none e = e ∙ rw none (append-nil before)
 
-pub read_whole : (text rest : Text) (draft : Draft) (number : ℕ) → rest ≡ [] → IsSoFar text rest draft number → IsWhole draft.section → IsScript text draft.script
+pub read_whole : (text rest : Text) (draft : Draft) (number : ℕ) → rest ≡ [] → IsSoFar text rest draft number → IsWhole draft.section → IsScript text (script_of draft)
 read_whole text rest draft number none s whole =
     let all = lines_all text rest s.before none s.parted in
     record { draft = draft; says = rw all s.says; whole = whole; means = refl }

@@ -75,7 +75,11 @@ abbrev pub no_config : Config
 no_config = record { life = 0; tries = 0; wait = 0; pages = 0; server = no_machine; client = no_machine; domain = []; router = 0 }
 
 abbrev pub blank : Draft
-blank = record { section = sections.Life; script = record { config = no_config; events = record { fates = [] }; commands = [] } }
+blank = record { section = sections.Life; config = no_config; fates = []; commands = [] }
+
+-- the script that the draft is
+abbrev pub script_of : Draft → Script
+script_of draft = record { config = draft.config; events = record { fates = draft.fates }; commands = draft.commands }
 
 -- all six lines of the heading came
 abbrev pub IsWhole : Section → Type 0
@@ -91,7 +95,7 @@ pub record IsScript (text : Text) (script : Script) : Type 0 where
   pub draft : Draft
   pub says : Says (lines text) draft
   pub whole : IsWhole draft.section
-  pub means : script ≡ draft.script
+  pub means : script ≡ script_of draft
 
 -- line n is there, all lines before it are in the grammar, and it isn't or reaches past the input limit
 pub record IsRefusedLine (text : Text) (n : ℕ) : Type 0 where

@@ -3,6 +3,7 @@ pub mod Texts
 pub mod Runs
 pub mod Packets
 pub mod Lines
+pub mod Ids
 pub mod Grammar
 pub mod Rules
 pub mod Reading

@@ -17,13 +17,13 @@ use Rattle.sd_script.specs.Limits.{command_limit, fate_limit}
 -- The draft with another configuration, event or command, and the section of the next line.
 
 abbrev pub with_config : Draft → Section → Config → Draft
-with_config draft section config = record draft { section = section; script = record draft.script { config = config } }
+with_config draft section config = record draft { section = section; config = config }
 
 abbrev pub with_fate : Draft → Fate → Draft
-with_fate draft fate = record draft { section = sections.Events; script = record draft.script { events = record draft.script.events { fates = draft.script.events.fates ++ (fate ∷ []) } } }
+with_fate draft fate = record draft { section = sections.Events; fates = draft.fates ++ (fate ∷ []) }
 
 abbrev pub with_command : Draft → Command → Draft
-with_command draft command = record draft { section = sections.Commands; script = record draft.script { commands = draft.script.commands ++ (command ∷ []) } }
+with_command draft command = record draft { section = sections.Commands; commands = draft.commands ++ (command ∷ []) }
 
 -- Configuration lines, then event lines, then command lines.
 
@@ -42,7 +42,7 @@ pub record LifeLine (old : Draft) (args : List Text) (new : Draft) : Type 0 wher
   pub text : args ≡ field ∷ []
   pub number : IsNumber 2 10000 field life
   pub place : old.section ≡ sections.Life
-  pub means : new ≡ with_config old sections.Tries (record old.script.config { life = life })
+  pub means : new ≡ with_config old sections.Tries (record old.config { life = life })
 
 -- `tries T`
 pub record TriesLine (old : Draft) (args : List Text) (new : Draft) : Type 0 where
@@ -51,7 +51,7 @@ pub record TriesLine (old : Draft) (args : List Text) (new : Draft) : Type 0 whe
   pub text : args ≡ field ∷ []
   pub number : IsNumber 1 64 field tries
   pub place : old.section ≡ sections.Tries
-  pub means : new ≡ with_config old sections.Wait (record old.script.config { tries = tries })
+  pub means : new ≡ with_config old sections.Wait (record old.config { tries = tries })
 
 -- `wait W`
 pub record WaitLine (old : Draft) (args : List Text) (new : Draft) : Type 0 where
@@ -60,7 +60,7 @@ pub record WaitLine (old : Draft) (args : List Text) (new : Draft) : Type 0 wher
   pub text : args ≡ field ∷ []
   pub number : IsNumber 1 1000 field wait
   pub place : old.section ≡ sections.Wait
-  pub means : new ≡ with_config old sections.Pages (record old.script.config { wait = wait })
+  pub means : new ≡ with_config old sections.Pages (record old.config { wait = wait })
 
 -- `pages P`
 pub record PagesLine (old : Draft) (args : List Text) (new : Draft) : Type 0 where
@@ -69,7 +69,7 @@ pub record PagesLine (old : Draft) (args : List Text) (new : Draft) : Type 0 whe
   pub text : args ≡ field ∷ []
   pub number : IsNumber 1 4095 field pages
   pub place : old.section ≡ sections.Pages
-  pub means : new ≡ with_config old sections.Server (record old.script.config { pages = pages })
+  pub means : new ≡ with_config old sections.Server (record old.config { pages = pages })
 
 -- `MAC IP NAME`, with an address other than 0.0.0.0 and 255.255.255.255
 pub record IsMachine (mac ip name : Text) (machine : Machine) : Type 0 where
@@ -95,7 +95,7 @@ pub record ServerLine (old : Draft) (args : List Text) (new : Draft) : Type 0 wh
   pub text : args ≡ mac ∷ ip ∷ name ∷ []
   pub place : old.section ≡ sections.Server
   pub machine : IsMachine mac ip name server
-  pub means : new ≡ with_config old sections.Client (record old.script.config { server = server })
+  pub means : new ≡ with_config old sections.Client (record old.config { server = server })
 
 -- `client MAC IP NAME DOMAIN IP`
 pub record ClientLine (old : Draft) (args : List Text) (new : Draft) : Type 0 where
@@ -111,8 +111,8 @@ pub record ClientLine (old : Draft) (args : List Text) (new : Draft) : Type 0 wh
   pub machine : IsMachine mac ip name client
   pub domain_name : IsName domain
   pub is_router : IsIp router_ip router
-  pub differ : Differ client old.script.config.server
-  pub means : new ≡ with_config old sections.Config (record old.script.config { client = client; domain = domain; router = router })
+  pub differ : Differ client old.config.server
+  pub means : new ≡ with_config old sections.Config (record old.config { client = client; domain = domain; router = router })
 
 -- Event lines.
 
@@ -132,8 +132,8 @@ pub record FateLine (old : Draft) (args : List Text) (new : Draft) : Type 0 wher
   pub text : args ≡ id ∷ delays
   pub place : MayBeEvent old.section
   pub is_id : IsNumber 0 4294967295 id fate.id
-  pub are_delays : IsDelays old.script.config.life delays fate.delays
-  pub may : MayAddFate old.script.events.fates fate.id
+  pub are_delays : IsDelays old.config.life delays fate.delays
+  pub may : MayAddFate old.fates fate.id
   pub means : new ≡ with_fate old fate
 
 -- Command lines.
@@ -141,7 +141,7 @@ pub record FateLine (old : Draft) (args : List Text) (new : Draft) : Type 0 wher
 -- a command in the place of one, of which a script has at most 16,384
 pub record AddsCommand (old : Draft) (command : Command) (new : Draft) : Type 0 where
   pub place : MayBeCommand old.section
-  pub count : length old.script.commands < command_limit
+  pub count : length old.commands < command_limit
   pub means : new ≡ with_command old command
 
 -- `addr`

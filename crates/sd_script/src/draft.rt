@@ -1,6 +1,8 @@
 //! What the lines of a script say so far.
 
-use crate::script::Script;
+use crate::fates::FateBook;
+use crate::script::CommandList;
+use sd_link::Config;
 
 /// Which lines may come next. The first six are the lines of the heading, in their order.
 #[derive(Clone, Copy, Debug, PartialEq, Eq)]
@@ -33,5 +35,7 @@ pub enum Word {
 #[derive(Debug, Drop)]
 pub struct Draft {
     pub section: Section,
-    pub script: Script,
+    pub config: Config,
+    pub fates: FateBook,
+    pub commands: CommandList,
 }

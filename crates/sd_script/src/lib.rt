@@ -4,6 +4,7 @@
 mod answers;
 mod draft;
 mod error;
+mod fates;
 mod fields;
 mod laws;
 mod limits;

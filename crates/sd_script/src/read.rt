@@ -2,15 +2,16 @@
 
 ghost use Rattle.std.specs.Prelude.{◌≡◌, ◌<◌, ◌∷◌, ◌++◌, length, IsTrue, ◌↔◌, IfOk, IfErr};
 ghost use Rattle.sd_script.specs.Rules.{KeepsRules};
-ghost use Rattle.sd_script.specs.Grammar.{blank, no_machine, IsWhole, IsScript, IsScriptError, lines, without_feed};
+ghost use Rattle.sd_script.specs.Grammar.{blank, no_machine, script_of, IsWhole, IsScript, IsScriptError, lines, without_feed};
 
 use crate::draft::{Draft, Section};
 use crate::error::{LineError, ScriptError};
+use crate::fates::FateBook;
 use crate::limits::INPUT_LIMIT;
 use crate::lines::read_line;
 use crate::parts::place_of;
 use crate::script::{CommandList, Script};
-use sd_link::{Config, Events, FateList, Machine};
+use sd_link::{Config, Events, Machine};
 use sd_outside::{ByteList, Mac};
 use std::alloc::Global;
 
@@ -30,22 +31,31 @@ fn blank_draft(alloc: Global) -> Draft
 {
     Draft {
         section: Section::Life,
-        script: Script {
-            config: Config {
-                life: 0,
-                tries: 0,
-                wait: 0,
-                pages: 0,
-                server: empty_machine(alloc),
-                client: empty_machine(alloc),
-                domain: ByteList::empty(alloc),
-                router: 0,
-            },
-            events: Events {
-                fates: FateList::empty(alloc),
-            },
-            commands: CommandList::empty(alloc),
+        config: Config {
+            life: 0,
+            tries: 0,
+            wait: 0,
+            pages: 0,
+            server: empty_machine(alloc),
+            client: empty_machine(alloc),
+            domain: ByteList::empty(alloc),
+            router: 0,
         },
+        fates: FateBook::empty(alloc),
+        commands: CommandList::empty(alloc),
+    }
+}
+
+/// The script that a draft is.
+fn script_of(draft: Draft) -> Script
+    ensures { result ≡ script_of draft }
+{
+    Script {
+        config: draft.config,
+        events: Events {
+            fates: draft.fates.into_list(),
+        },
+        commands: draft.commands,
     }
 }
 
@@ -105,7 +115,7 @@ pub fn read_script(alloc: Global, text: &[u8]) -> Result<Script, ScriptError>
         rest = after;
     }
     if is_whole(draft.section) {
-        Ok(draft.script)
+        Ok(script_of(draft))
     } else {
         Err(ScriptError::Line { number: number + 1 })
     }

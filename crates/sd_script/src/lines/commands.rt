@@ -24,10 +24,10 @@ fn add_command(draft: &mut Draft, command: Command) -> Result<(), LineError>
     ensures { Judges (λ old _ new. AddsCommand old command new) draft.old [] draft.new result }
 {
     may_be_command(draft.section)?;
-    if draft.script.commands.as_slice().len() >= COMMAND_LIMIT {
+    if draft.commands.as_slice().len() >= COMMAND_LIMIT {
         return Err(LineError::Outside);
     }
-    draft.script.commands.push(command)?;
+    draft.commands.push(command)?;
     draft.section = Section::Commands;
     Ok(())
 }

@@ -6,7 +6,6 @@ ghost use Rattle.sd_script.specs.Lines.{FateLine, MayAddFate, MayBeEvent, IsDela
 use crate::draft::{Draft, Section};
 use crate::error::LineError;
 use crate::fields::{take_end, take_number};
-use crate::limits::FATE_LIMIT;
 use crate::parts::Parts;
 use crate::values::{read_number, same_text};
 use sd_link::{Fate, TickList};
@@ -20,13 +19,6 @@ fn may_be_event(section: Section) -> Result<(), LineError>
         Section::Config | Section::Events => Ok(()),
         _ => Err(LineError::Outside),
     }
-}
-
-/// A fate of this packet may be added.
-fn may_add_fate(fates: &[Fate], id: u64) -> bool
-    ensures { IsTrue result ↔ MayAddFate fates.now id }
-{
-    fates.len() < FATE_LIMIT && fates.iter().all(|fate| fate.id != id)
 }
 
 /// One delay more.
@@ -68,11 +60,11 @@ pub fn fate_line(alloc: Global, draft: &mut Draft, mut fields: Parts<'_>) -> Res
 {
     may_be_event(draft.section)?;
     let id = take_number(&mut fields, 0, 4_294_967_295)?;
-    let delays = read_delays(alloc, fields, draft.script.config.life)?;
-    if !may_add_fate(draft.script.events.fates.as_slice(), id) {
+    let delays = read_delays(alloc, fields, draft.config.life)?;
+    if !draft.fates.may_add(id) {
         return Err(LineError::Outside);
     }
-    draft.script.events.fates.push(Fate { id, delays })?;
+    draft.fates.add(Fate { id, delays })?;
     draft.section = Section::Events;
     Ok(())
 }

@@ -1,8 +1,9 @@
-use Rattle.std.proofs.Common.{◌≤◌, ◌+◌, length, refl, sym, inr, arith}
+use Rattle.std.proofs.Common.{◌≤◌, ◌+◌, length, refl, sym, subst, inr, arith}
 use Rattle.std.proofs.lemmas.Bool.{false≢true, eqb-true}
 use Rattle.std.proofs.lemmas.List.{nil_from_length}
 use Rattle.sd_script.specs.Limits.{input_limit}
-use Rattle.sd_script.specs.Grammar.{IsLine, without_feed}
+use Rattle.sd_script.specs.Grammar.{IsLine, without_feed, script_of, IsScript}
+use Rattle.sd_script.specs.Rules.{KeepsRules}
 use Rattle.sd_script.specs.declared.draft.Draft.{Draft}
 use Rattle.sd_script.proofs.ScriptLemmas.{IsNextLine, so_far_goes_on, refused_here, read_whole, ends_early}
 use Rattle.sd_script.proofs.RuleLemmas.{keeps_rules}
@@ -26,7 +27,8 @@ loop-rest-preserved c =
 pub returns-then-is_whole-clause-script : goal.returns-then-is_whole-clause-script
 returns-then-is_whole-clause-script c =
     let none = nil_from_length c.loop-rest.rest.now (eqb-true _ _ (sym (c.loop-rest-test.ensures))) in
-    read_whole c.args.text.now c.loop-rest.rest.now c.loop-rest.draft c.loop-rest.number none c.loop-rest.invariant ((c.if-is_whole.ensures).0 refl)
+    subst (IsScript c.args.text.now) (sym c.script_of.ensures)
+    (read_whole c.args.text.now c.loop-rest.rest.now c.loop-rest.draft c.loop-rest.number none c.loop-rest.invariant ((c.if-is_whole.ensures).0 refl))
 
 pub returns-else-is_whole-clause-refused : goal.returns-else-is_whole-clause-refused
 returns-else-is_whole-clause-refused c =
@@ -36,4 +38,5 @@ returns-else-is_whole-clause-refused c =
 pub returns-then-is_whole-clause-rules : goal.returns-then-is_whole-clause-rules
 returns-then-is_whole-clause-rules c =
     let none = nil_from_length c.loop-rest.rest.now (eqb-true _ _ (sym (c.loop-rest-test.ensures))) in
-    keeps_rules c.args.text.now c.loop-rest.draft.script (read_whole c.args.text.now c.loop-rest.rest.now c.loop-rest.draft c.loop-rest.number none c.loop-rest.invariant ((c.if-is_whole.ensures).0 refl))
+    subst KeepsRules (sym c.script_of.ensures)
+    (keeps_rules c.args.text.now (script_of c.loop-rest.draft) (read_whole c.args.text.now c.loop-rest.rest.now c.loop-rest.draft c.loop-rest.number none c.loop-rest.invariant ((c.if-is_whole.ensures).0 refl)))
