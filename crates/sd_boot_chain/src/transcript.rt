@@ -81,7 +81,7 @@ fn do_all<L: Link, K: Sink>(
     ensures lasts { Lasts most_session_ticks (L.told link.old) (L.told link.new) }
     ensures fault { IsErrOf result SessionError.SinkFault → Rose (K.faults sink.old) (K.faults sink.new) }
     ensures faults { L.faults link.old ≤ L.faults link.new }
-    ensures sink { K.faults sink.old ≤ K.faults sink.new }
+    ensures calm { OnOk result (K.faults sink.new ≡ K.faults sink.old) }
 {
     for command in commands {
         let text = text_of(alloc, client, link, command)?;
@@ -116,7 +116,7 @@ pub fn session<L: Link, K: Sink>(
     ensures lasts { Lasts most_session_ticks (L.told link.old) (L.told link.new) }
     ensures fault { IsErrOf result SessionError.SinkFault → Rose (K.faults sink.old) (K.faults sink.new) }
     ensures faults { L.faults link.old ≤ L.faults link.new }
-    ensures sink { K.faults sink.old ≤ K.faults sink.new }
+    ensures calm { OnOk result (K.faults sink.new ≡ K.faults sink.old) }
 {
     let mut client = Client::new(alloc, config)?;
     do_all(alloc, &mut client, link, commands.as_slice(), sink)

@@ -53,7 +53,7 @@ loop-command-preserved g c =
       lasts = lasts_then old mid new (i * most_ticks) most_ticks ((i + 1) * most_ticks) (omega arith) c.loop-command.invariant.lasts c.text_of.ensures.lasts;
       drained = c.in_ok-text.ensures.drained;
       faults = omega (arith, c.text_of.ensures.faults, c.loop-command.invariant.faults);
-      sink_faults = omega (arith, c.write_all.ensures.cause.later, c.loop-command.invariant.sink_faults);
+      sink_faults = c.in-Ok.ensures.cause.calm ∙ c.loop-command.invariant.sink_faults;
     }
 
 on_err : {T E P : Type 0} (r : Result T E) → P → OnErr r P

@@ -18,5 +18,5 @@ invariant-loop-command g l = record {
   lasts : Lasts (l.command-index * most_ticks) (g.L.Link.told l.initial.link) (g.L.Link.told l.link);
   drained : IfSome (g.L.Link.told l.link) (λ h. g.L.Link.drained l.link ≡ record_text (whole_record h));
   faults : g.L.Link.faults l.initial.link ≤ g.L.Link.faults l.link;
-  sink_faults : g.K.Sink.faults l.initial.sink ≤ g.K.Sink.faults l.sink;
+  sink_faults : g.K.Sink.faults l.sink ≡ g.K.Sink.faults l.initial.sink;
 }

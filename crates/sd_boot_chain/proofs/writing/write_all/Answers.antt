@@ -11,5 +11,5 @@ loop-rest-preserved g c =
       so_far =
           subst (λ (l : List ℕ). Written (g.K.Sink.written c.args.sink.now) (g.K.Sink.written c.write.new.self) c.args.bytes.now l) (sym (take_rest rest n))
           (written_more _ _ _ c.args.bytes.now rest n c.loop-rest.invariant.so_far c.in_ok-count.ensures.bytes.0);
-      faults = omega (arith, c.write.ensures.cause.later, c.loop-rest.invariant.faults);
+      faults = c.in_ok-count.ensures.cause.calm ∙ c.loop-rest.invariant.faults;
     }
