@@ -1,0 +1,17 @@
+pub mod RunLemmas
+pub mod WriteLemmas
+pub mod Exits
+pub mod NumberLemmas
+pub mod HexCase
+pub mod CutLemmas
+pub mod ItemLemmas
+pub mod JudgeLemmas
+pub mod ScriptLemmas
+pub mod MacLemmas
+pub mod DelayLemmas
+pub mod PacketLemmas
+pub mod ReadBack
+pub mod OneLine
+pub mod OneScript
+pub mod RuleLemmas
+pub mod IdLemmas

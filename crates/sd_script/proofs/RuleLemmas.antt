@@ -1,0 +1,265 @@
+-- Lines in the grammar make a script that keeps the rules.
+use Rattle.std.proofs.Common.{◌≡◌, ℕ, ◌-◌, ◌<◌, ◌≤◌, ◌^◌, List, [], ◌∷◌, ◌++◌, length, refl, sym, ap, subst, inl, inr, arith, length-append}
+use Rattle.std.specs.List.{All, AllZip}
+use Rattle.std.proofs.lemmas.List.Elements.{All-nil, All-cons, All-append}
+use Rattle.sd_outside.specs.declared.packet.Mac.{Mac}
+use Rattle.sd_outside.specs.Bytes as bytes
+use Rattle.sd_link.specs.declared.config.Config.{Config}
+use Rattle.sd_link.specs.declared.config.Machine.{Machine}
+use Rattle.sd_link.specs.declared.events.Fate.{Fate}
+use Rattle.sd_link.specs.Texts.{Text}
+use Rattle.sd_link.specs.Config as rules
+use Rattle.sd_link.specs.Config.{IsConfig, IsWithin}
+use Rattle.sd_link.specs.Events.{IsFate, IsEvents}
+use Rattle.sd_script.specs.declared.script.Command.{Command}
+use Rattle.sd_script.specs.declared.script.Command.TheVariants as commands
+use Rattle.sd_script.specs.declared.script.Script.{Script}
+use Rattle.sd_script.specs.declared.draft.Section.{Section}
+use Rattle.sd_script.specs.declared.draft.Section.TheVariants as sections
+use Rattle.sd_script.specs.declared.draft.Draft.{Draft}
+use Rattle.sd_script.specs.declared.draft.Word.{Word}
+use Rattle.sd_script.specs.declared.draft.Word.TheVariants as words
+use Rattle.sd_script.specs.Limits.{command_limit}
+use Rattle.sd_script.specs.Texts.{IsNumber, IsMac}
+use Rattle.sd_script.specs.Lines.{IsMachine, Differ, LifeLine, TriesLine, WaitLine, PagesLine, ServerLine, ClientLine, MayBeEvent, MayBeCommand, IsDelays, FateLine, AddsCommand, AddrLine, WaitCommandLine, with_config, with_fate, with_command}
+use Rattle.sd_script.specs.Grammar.{WordLine, IsLine, Leads, without_feed, blank, script_of, IsWhole, IsScript}
+use Rattle.sd_script.specs.Rules.{IsCommand, KeepsRules}
+
+-- how many lines of the heading stand before a section
+abbrev stage : Section → ℕ
+stage sections.Life = 0
+stage sections.Tries = 1
+stage sections.Wait = 2
+stage sections.Pages = 3
+stage sections.Server = 4
+stage sections.Client = 5
+stage sections.Config = 6
+stage sections.Events = 6
+stage sections.Commands = 6
+
+-- what is known of the heading's lines once so many came
+record IsHeaded (n : ℕ) (c : Config) : Type 0 where
+  life : 1 ≤ n → IsWithin 2 10000 c.life
+  tries : 2 ≤ n → IsWithin 1 64 c.tries
+  wait : 3 ≤ n → IsWithin 1 1000 c.wait
+  pages : 4 ≤ n → IsWithin 1 4095 c.pages
+  server : 5 ≤ n → rules.IsMachine c.server
+  whole : 6 ≤ n → IsConfig c
+
+-- the rules so far
+record KeepsSoFar (d : Draft) : Type 0 where
+  headed : IsHeaded (stage d.section) d.config
+  early : stage d.section < 6 → d.fates ≡ []
+  fates : All (IsFate d.config.life) d.fates
+  commands : All IsCommand d.commands
+  few : length d.commands ≤ command_limit
+
+within : (least most : ℕ) {text : Text} {n : ℕ} → IsNumber least most text n → IsWithin least most n
+within least most h = (h.low, h.high)
+
+machine_kept : {mac ip name : Text} (m : Machine) → IsMachine mac ip name m → rules.IsMachine m
+machine_kept m h = record {
+  mac = record { wide = h.is_mac.six; bytes = h.is_mac.bytes };
+  ip = omega (arith, h.least, h.most);
+  name = subst rules.IsName (sym h.same_name) h.is_name;
+}
+
+none : {X : Type 0} (P : X → Type 0) (xs : List X) → xs ≡ [] → All P xs
+none P xs e = subst (λ l. All P l) (sym e) (All-nil P)
+
+-- the draft with another configuration, before the heading's end
+heads : (old : Draft) (section : Section) (c : Config) → KeepsSoFar old → stage old.section < 6 → IsHeaded (stage section) c → KeepsSoFar (with_config old section c)
+heads old section c k early h = record {
+  headed = h;
+  early = λ _. k.early early;
+  fates = none (IsFate c.life) old.fates (k.early early);
+  commands = k.commands;
+  few = k.few;
+}
+
+-- the lines of the heading that came, where the next is at this place
+came : (old : Draft) (section : Section) → old.section ≡ section → KeepsSoFar old → IsHeaded (stage section) old.config
+came old section at k = subst (λ s. IsHeaded (stage s) old.config) at k.headed
+
+early_at : (old : Draft) (section : Section) → old.section ≡ section → stage section < 6 → stage old.section < 6
+early_at old section at h = subst (λ s. stage s < 6) (sym at) h
+
+life_kept : (old : Draft) (args : List Text) (new : Draft) → LifeLine old args new → KeepsSoFar old → KeepsSoFar new
+life_kept old args new l k = subst KeepsSoFar (sym l.means) (heads old sections.Tries (record old.config { life = l.life }) k (early_at old sections.Life l.place (omega arith)) record {
+  life = λ _. within 2 10000 l.number;
+  tries = λ h. absurd (omega (arith, h));
+  wait = λ h. absurd (omega (arith, h));
+  pages = λ h. absurd (omega (arith, h));
+  server = λ h. absurd (omega (arith, h));
+  whole = λ h. absurd (omega (arith, h));
+})
+
+tries_kept : (old : Draft) (args : List Text) (new : Draft) → TriesLine old args new → KeepsSoFar old → KeepsSoFar new
+tries_kept old args new l k =
+    let c = came old sections.Tries l.place k in
+    subst KeepsSoFar (sym l.means) (heads old sections.Wait (record old.config { tries = l.tries }) k (early_at old sections.Tries l.place (omega arith)) record {
+      life = λ _. c.life (omega arith);
+      tries = λ _. within 1 64 l.number;
+      wait = λ h. absurd (omega (arith, h));
+      pages = λ h. absurd (omega (arith, h));
+      server = λ h. absurd (omega (arith, h));
+      whole = λ h. absurd (omega (arith, h));
+    })
+
+wait_kept : (old : Draft) (args : List Text) (new : Draft) → WaitLine old args new → KeepsSoFar old → KeepsSoFar new
+wait_kept old args new l k =
+    let c = came old sections.Wait l.place k in
+    subst KeepsSoFar (sym l.means) (heads old sections.Pages (record old.config { wait = l.wait }) k (early_at old sections.Wait l.place (omega arith)) record {
+      life = λ _. c.life (omega arith);
+      tries = λ _. c.tries (omega arith);
+      wait = λ _. within 1 1000 l.number;
+      pages = λ h. absurd (omega (arith, h));
+      server = λ h. absurd (omega (arith, h));
+      whole = λ h. absurd (omega (arith, h));
+    })
+
+pages_kept : (old : Draft) (args : List Text) (new : Draft) → PagesLine old args new → KeepsSoFar old → KeepsSoFar new
+pages_kept old args new l k =
+    let c = came old sections.Pages l.place k in
+    subst KeepsSoFar (sym l.means) (heads old sections.Server (record old.config { pages = l.pages }) k (early_at old sections.Pages l.place (omega arith)) record {
+      life = λ _. c.life (omega arith);
+      tries = λ _. c.tries (omega arith);
+      wait = λ _. c.wait (omega arith);
+      pages = λ _. within 1 4095 l.number;
+      server = λ h. absurd (omega (arith, h));
+      whole = λ h. absurd (omega (arith, h));
+    })
+
+server_kept : (old : Draft) (args : List Text) (new : Draft) → ServerLine old args new → KeepsSoFar old → KeepsSoFar new
+server_kept old args new l k =
+    let c = came old sections.Server l.place k in
+    subst KeepsSoFar (sym l.means) (heads old sections.Client (record old.config { server = l.server }) k (early_at old sections.Server l.place (omega arith)) record {
+      life = λ _. c.life (omega arith);
+      tries = λ _. c.tries (omega arith);
+      wait = λ _. c.wait (omega arith);
+      pages = λ _. c.pages (omega arith);
+      server = λ _. machine_kept l.server l.machine;
+      whole = λ h. absurd (omega (arith, h));
+    })
+
+client_kept : (old : Draft) (args : List Text) (new : Draft) → ClientLine old args new → KeepsSoFar old → KeepsSoFar new
+client_kept old args new l k =
+    let c = came old sections.Client l.place k in
+    let life = c.life (omega arith) in
+    let tries = c.tries (omega arith) in
+    let wait = c.wait (omega arith) in
+    let pages = c.pages (omega arith) in
+    let server = c.server (omega arith) in
+    let client = machine_kept l.client l.machine in
+    let other = old.config.server in
+    subst KeepsSoFar (sym l.means) (heads old sections.Config (record old.config { client = l.client; domain = l.domain; router = l.router }) k (early_at old sections.Client l.place (omega arith)) record {
+      life = λ _. life;
+      tries = λ _. tries;
+      wait = λ _. wait;
+      pages = λ _. pages;
+      server = λ _. server;
+      whole = λ _. record {
+        life = life;
+        tries = tries;
+        wait = wait;
+        pages = pages;
+        server = server;
+        client = client;
+        domain = l.domain_name;
+        router = l.is_router.fits;
+        macs = λ e. l.differ.mac (ap (λ (b : List ℕ). record { 0 = b }) (sym e));
+        ips = λ e. l.differ.ip (sym e);
+        names = λ e. l.differ.name (sym e);
+      };
+    })
+
+delays_kept : (most : ℕ) (args : List Text) (delays : List ℕ) → AllZip (IsNumber 1 most) args delays → All (IsWithin 1 most) delays × (length delays ≤ length args)
+delays_kept most [] [] z = (All-nil (IsWithin 1 most), omega arith)
+delays_kept most [] (d ∷ delays) z = absurd z
+delays_kept most (text ∷ args) [] z = absurd z
+delays_kept most (text ∷ args) (d ∷ delays) z =
+    let rest = delays_kept most args delays z.1 in
+    (All-cons (IsWithin 1 most) d delays (within 1 most z.0) rest.0, omega (arith, rest.1))
+
+fate_ok : (life : ℕ) (args : List Text) (fate : Fate) → fate.id ≤ 4294967295 → IsDelays life args fate.delays → IsFate life fate
+fate_ok life args fate id delays = elim delays [
+  | inl lost ↦ record { id = omega (arith, id); few = rw lost.1 (omega arith); delays = none (IsWithin 1 (life - 1)) fate.delays lost.1 }
+  | inr some ↦
+      let kept = delays_kept (life - 1) args fate.delays some.2 in
+      record { id = omega (arith, id); few = omega (arith, some.1, kept.1); delays = kept.0 }
+]
+
+whole_at_event : (s : Section) → MayBeEvent s → stage s ≡ 6
+whole_at_event s m = elim m [ inl e ↦ ap stage e | inr e ↦ ap stage e ]
+
+whole_at_command : (s : Section) → MayBeCommand s → stage s ≡ 6
+whole_at_command s m = elim m [ inl e ↦ ap stage e | inr f ↦ elim f [ inl e ↦ ap stage e | inr e ↦ ap stage e ] ]
+
+headed_on : (old : Draft) → stage old.section ≡ 6 → KeepsSoFar old → IsHeaded 6 old.config
+headed_on old at k = subst (λ n. IsHeaded n old.config) at k.headed
+
+fate_kept : (old : Draft) (args : List Text) (new : Draft) → FateLine old args new → KeepsSoFar old → KeepsSoFar new
+fate_kept old args new l k =
+    let at = whole_at_event old.section l.place in
+    let is = fate_ok old.config.life l.delays l.fate l.is_id.high l.are_delays in
+    let P = IsFate old.config.life in
+    let kept : KeepsSoFar (with_fate old l.fate) = record {
+      headed = headed_on old at k;
+      early = λ h. absurd (omega (arith, h));
+      fates = All-append P old.fates (l.fate ∷ []) k.fates (All-cons P l.fate [] is (All-nil P));
+      commands = k.commands;
+      few = k.few;
+    } in
+    subst KeepsSoFar (sym l.means) kept
+
+adds_kept : (old : Draft) (command : Command) (new : Draft) → IsCommand command → AddsCommand old command new → KeepsSoFar old → KeepsSoFar new
+adds_kept old command new is l k =
+    let at = whole_at_command old.section l.place in
+    let kept : KeepsSoFar (with_command old command) = record {
+      headed = headed_on old at k;
+      early = λ h. absurd (omega (arith, h));
+      fates = k.fates;
+      commands = All-append IsCommand old.commands (command ∷ []) k.commands (All-cons IsCommand command [] is (All-nil IsCommand));
+      few = omega (arith, l.count, length-append old.commands (command ∷ []));
+    } in
+    subst KeepsSoFar (sym l.means) kept
+
+word_kept : (word : Word) (old : Draft) (args : List Text) (new : Draft) → WordLine word old args new → KeepsSoFar old → KeepsSoFar new
+word_kept words.Life old args new l k = life_kept old args new l k
+word_kept words.Tries old args new l k = tries_kept old args new l k
+word_kept words.Wait old args new l k = elim l [ inl h ↦ wait_kept old args new h k | inr h ↦ adds_kept old (commands.Wait h.ticks) new (within 1 100000 h.number) h.adds k ]
+word_kept words.Pages old args new l k = pages_kept old args new l k
+word_kept words.Server old args new l k = server_kept old args new l k
+word_kept words.Client old args new l k = client_kept old args new l k
+word_kept words.Fate old args new l k = fate_kept old args new l k
+word_kept words.Addr old args new l k = adds_kept old commands.Addr new tt l.adds k
+
+line_kept : (old : Draft) (line : Text) (new : Draft) → IsLine old line new → KeepsSoFar old → KeepsSoFar new
+line_kept old line new l k = elim l [ inl skipped ↦ subst KeepsSoFar (sym skipped.1) k | inr w ↦ word_kept w.word old w.args new w.says k ]
+
+leads_kept : (old : Draft) (lines : List Text) (new : Draft) → Leads old lines new → KeepsSoFar old → KeepsSoFar new
+leads_kept old [] new e k = subst KeepsSoFar e k
+leads_kept old (line ∷ more) new l k = leads_kept l.0 more new l.2 (line_kept old (without_feed line) l.0 l.1 k)
+
+blank_kept : KeepsSoFar blank
+blank_kept = record {
+  headed = record {
+    life = λ h. absurd (omega (arith, h));
+    tries = λ h. absurd (omega (arith, h));
+    wait = λ h. absurd (omega (arith, h));
+    pages = λ h. absurd (omega (arith, h));
+    server = λ h. absurd (omega (arith, h));
+    whole = λ h. absurd (omega (arith, h));
+  };
+  early = λ _. refl;
+  fates = All-nil (IsFate 0);
+  commands = All-nil IsCommand;
+  few = omega arith;
+}
+
+pub keeps_rules : (text : Text) (script : Script) → IsScript text script → KeepsRules script
+keeps_rules text script s =
+    let k = leads_kept blank _ s.draft s.says.leads blank_kept in
+    let at = whole_at_command s.draft.section s.whole in
+    let kept : KeepsRules (script_of s.draft) = record { config = (headed_on s.draft at k).whole (omega arith); events = record { fates = k.fates }; commands = k.commands; few = k.few } in
+    subst KeepsRules (sym s.means) kept

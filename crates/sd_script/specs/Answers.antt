@@ -1,0 +1,25 @@
+-- The answer lines of a transcript.
+use Rattle.std.specs.Prelude.{◌∷◌, ◌++◌, [], codes}
+use Rattle.std.specs.Fmt.{decimal}
+use Rattle.sd_link.specs.declared.link.Stage.{Stage}
+use Rattle.sd_link.specs.declared.link.Stage.TheVariants.{Rarp, Wait}
+use Rattle.sd_link.specs.Texts.{Text, ip_text}
+use Rattle.sd_script.specs.declared.told.Told.{Told}
+use Rattle.sd_script.specs.declared.told.Told.TheVariants.{AddrOk, AddrTimeout, AddrFlood, AddrLinkFault, WaitOk, WaitFlood, WaitLinkFault}
+
+abbrev pub stage_text : Stage → Text
+stage_text Rarp = codes "rarp"
+stage_text Wait = codes "wait"
+
+-- what stands before the line feed
+abbrev pub answer_text : Told → Text
+answer_text (AddrOk ip) = codes "addr ok " ++ ip_text ip
+answer_text AddrTimeout = codes "addr timeout rarp"
+answer_text (AddrFlood step) = codes "addr flood " ++ stage_text step
+answer_text AddrLinkFault = codes "addr linkfault"
+answer_text (WaitOk ticks) = codes "wait " ++ decimal ticks ++ codes " ok"
+answer_text (WaitFlood ticks) = codes "wait " ++ decimal ticks ++ codes " flood wait"
+answer_text (WaitLinkFault ticks) = codes "wait " ++ decimal ticks ++ codes " linkfault"
+
+abbrev pub answer_line : Told → Text
+answer_line told = answer_text told ++ 10 ∷ []

@@ -1,0 +1,14 @@
+-- How much a script may hold.
+use Rattle.std.specs.Prelude.{ℕ}
+
+-- the most bytes of an input, and the most for which a byte run text that is read stands
+abbrev pub input_limit : ℕ
+input_limit = 67108864
+
+-- the most commands of a script
+abbrev pub command_limit : ℕ
+command_limit = 16384
+
+-- the most fates of a script
+abbrev pub fate_limit : ℕ
+fate_limit = 65536

@@ -1,0 +1,72 @@
+//! The answer lines of a transcript.
+
+ghost use Rattle.std.specs.Prelude.{◌≡◌, ◌++◌, codes, OnOk, OnErr};
+ghost use Rattle.std.specs.Fmt.{decimal};
+ghost use Rattle.sd_script.specs.Answers.{answer_text, answer_line, stage_text};
+
+use crate::told::Told;
+use crate::writing::{ip_list, push_number};
+use sd_link::Stage;
+use sd_outside::{ByteList, NoMemory};
+use std::alloc::Global;
+
+/// The word for a stage.
+fn stage_word(stage: Stage) -> &'static [u8]
+    ensures { result.now ≡ stage_text stage }
+{
+    match stage {
+        Stage::Rarp => b"rarp",
+        Stage::Wait => b"wait",
+    }
+}
+
+/// Adds `addr ok IP`.
+fn push_address(alloc: Global, ip: u32, line: &mut ByteList) -> Result<(), NoMemory>
+    ensures { OnOk result (line.new ≡ line.old ++ answer_text (Told.AddrOk ip)) }
+{
+    line.push_slice(b"addr ok ")?;
+    line.push_slice(ip_list(alloc, ip)?.as_slice())
+}
+
+/// Adds `addr flood STEP`.
+fn push_flood(step: Stage, line: &mut ByteList) -> Result<(), NoMemory>
+    ensures { OnOk result (line.new ≡ line.old ++ answer_text (Told.AddrFlood step)) }
+{
+    line.push_slice(b"addr flood ")?;
+    line.push_slice(stage_word(step))
+}
+
+/// Adds `wait N` and what stands behind it.
+fn push_wait(alloc: Global, ticks: u64, end: &[u8], line: &mut ByteList) -> Result<(), NoMemory>
+    ensures { OnOk result (line.new ≡ line.old ++ codes "wait " ++ decimal ticks ++ end.now) }
+{
+    line.push_slice(b"wait ")?;
+    push_number(alloc, line, ticks)?;
+    line.push_slice(end)
+}
+
+/// Adds an answer, without a line feed.
+fn push_answer(alloc: Global, answer: &Told, line: &mut ByteList) -> Result<(), NoMemory>
+    ensures { OnOk result (line.new ≡ line.old ++ answer_text answer.now) }
+{
+    match answer {
+        Told::AddrOk { ip } => push_address(alloc, *ip, line),
+        Told::AddrTimeout => line.push_slice(b"addr timeout rarp"),
+        Told::AddrFlood { step } => push_flood(*step, line),
+        Told::AddrLinkFault => line.push_slice(b"addr linkfault"),
+        Told::WaitOk { ticks } => push_wait(alloc, *ticks, b" ok", line),
+        Told::WaitFlood { ticks } => push_wait(alloc, *ticks, b" flood wait", line),
+        Told::WaitLinkFault { ticks } => push_wait(alloc, *ticks, b" linkfault", line),
+    }
+}
+
+/// Writes an answer line, with its line feed, at the end of a text. A refused call changes nothing.
+pub fn write_answer(alloc: Global, answer: &Told, text: &mut ByteList) -> Result<(), NoMemory>
+    ensures ok { OnOk result (text.new ≡ text.old ++ answer_line answer.now) }
+    ensures err { OnErr result (text.new ≡ text.old) }
+{
+    let mut line = ByteList::empty(alloc);
+    push_answer(alloc, answer, &mut line)?;
+    line.push_slice(b"\n")?;
+    text.push_slice(line.as_slice())
+}

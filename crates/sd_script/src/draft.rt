@@ -1,0 +1,41 @@
+//! What the lines of a script say so far.
+
+use crate::fates::FateBook;
+use crate::script::CommandList;
+use sd_link::Config;
+
+/// Which lines may come next. The first six are the lines of the heading, in their order.
+#[derive(Clone, Copy, Debug, PartialEq, Eq)]
+pub enum Section {
+    Life,
+    Tries,
+    Wait,
+    Pages,
+    Server,
+    Client,
+    Config,
+    Events,
+    Commands,
+}
+
+/// The words with which lines begin.
+#[derive(Clone, Copy, Debug, PartialEq, Eq)]
+pub enum Word {
+    Life,
+    Tries,
+    Wait,
+    Pages,
+    Server,
+    Client,
+    Fate,
+    Addr,
+}
+
+/// What the lines so far say, and which may come next. A value whose line hasn't come is zero or empty.
+#[derive(Debug, Drop)]
+pub struct Draft {
+    pub section: Section,
+    pub config: Config,
+    pub fates: FateBook,
+    pub commands: CommandList,
+}

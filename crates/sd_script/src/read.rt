@@ -1,0 +1,122 @@
+//! Reading a script, line by line.
+
+ghost use Rattle.std.specs.Prelude.{◌≡◌, ◌<◌, ◌∷◌, ◌++◌, length, IsTrue, ◌↔◌, IfOk, IfErr};
+ghost use Rattle.sd_script.specs.Rules.{KeepsRules};
+ghost use Rattle.sd_script.specs.Grammar.{blank, no_machine, script_of, IsWhole, IsScript, IsScriptError, lines, without_feed};
+
+use crate::draft::{Draft, Section};
+use crate::error::{LineError, ScriptError};
+use crate::fates::FateBook;
+use crate::limits::INPUT_LIMIT;
+use crate::lines::read_line;
+use crate::parts::place_of;
+use crate::script::{CommandList, Script};
+use sd_link::{Config, Events, Machine};
+use sd_outside::{ByteList, Mac};
+use std::alloc::Global;
+
+fn empty_machine(alloc: Global) -> Machine
+    ensures { result ≡ no_machine }
+{
+    Machine {
+        mac: Mac([0; 6]),
+        ip: 0,
+        name: ByteList::empty(alloc),
+    }
+}
+
+/// A draft of which nothing is said yet.
+fn blank_draft(alloc: Global) -> Draft
+    ensures { result ≡ blank }
+{
+    Draft {
+        section: Section::Life,
+        config: Config {
+            life: 0,
+            tries: 0,
+            wait: 0,
+            pages: 0,
+            server: empty_machine(alloc),
+            client: empty_machine(alloc),
+            domain: ByteList::empty(alloc),
+            router: 0,
+        },
+        fates: FateBook::empty(alloc),
+        commands: CommandList::empty(alloc),
+    }
+}
+
+/// The script that a draft is.
+fn script_of(draft: Draft) -> Script
+    ensures { result ≡ script_of draft }
+{
+    Script {
+        config: draft.config,
+        events: Events {
+            fates: draft.fates.into_list(),
+        },
+        commands: draft.commands,
+    }
+}
+
+/// The first line, with its line feed where it has one, and what follows it.
+fn split_line(text: &[u8]) -> (&[u8], &[u8])
+    requires { 0 < length text.now }
+    ensures lines { lines text.now ≡ result.0.now ∷ lines result.1.now }
+    ensures whole { text.now ≡ result.0.now ++ result.1.now }
+    ensures some { 0 < length result.0.now }
+{
+    match place_of(text, b'\n') {
+        Some(at) => text.split_at(at + 1),
+        None => text.split_at(text.len()),
+    }
+}
+
+/// A line without its line feed.
+fn body_of(line: &[u8]) -> &[u8]
+    ensures { result.now ≡ without_feed line.now }
+{
+    match place_of(line, b'\n') {
+        Some(at) => &line[..at],
+        None => line,
+    }
+}
+
+/// Whether all six lines of the heading came.
+fn is_whole(section: Section) -> bool
+    ensures { IsTrue result ↔ IsWhole section }
+{
+    matches!(
+        section,
+        Section::Config | Section::Events | Section::Commands
+    )
+}
+
+/// The script of a text, or the first line outside the grammar.
+pub fn read_script(alloc: Global, text: &[u8]) -> Result<Script, ScriptError>
+    ensures script { IfOk result (λ script. IsScript text.now script) }
+    ensures rules { IfOk result KeepsRules }
+    ensures refused { IfErr result (IsScriptError text.now) }
+{
+    let mut draft = blank_draft(alloc);
+    let mut rest = text;
+    let mut number: u64 = 0;
+    while !rest.is_empty() {
+        let (line, after) = split_line(rest);
+        number += 1;
+        if text.len() - after.len() > INPUT_LIMIT {
+            return Err(ScriptError::Line { number });
+        }
+        match read_line(alloc, &mut draft, body_of(line)) {
+            Ok(()) => {}
+            Err(LineError::Outside) => return Err(ScriptError::Line { number }),
+            Err(LineError::NoMemory) => return Err(ScriptError::NoMemory),
+        }
+        rest = after;
+    }
+    if is_whole(draft.section) {
+        Ok(script_of(draft))
+    } else {
+        Err(ScriptError::Line { number: number + 1 })
+    }
+}
