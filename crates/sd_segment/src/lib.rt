@@ -7,7 +7,6 @@
 
 mod due;
 mod flown;
-mod lines;
 mod printing;
 mod pushing;
 mod queue;

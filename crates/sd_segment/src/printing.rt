@@ -4,8 +4,8 @@ ghost use Rattle.sd_link.specs.Text.{record_text};
 ghost use Rattle.sd_segment.specs.Kept.{sent_entries, entries_of_kept, entries_kept};
 
 use crate::flown::{Flown, Kept, What};
-use crate::lines::{write_got, write_sent, write_served};
 use sd_outside::{ByteList, NoMemory};
+use sd_script::{write_got, write_sent, write_served};
 use std::alloc::Global;
 
 /// So many packets from this id on.

@@ -9,6 +9,6 @@ loop-flown-preserved c =
     let at = c.loop-flown.invariant.id in
     let room : c.args.first + length c.args.sent.now < 2 ^ 64 = c.requires (omega arith) in
     record {
-      text = sent_more c.args.tick c.args.first c.loop-flown.id i c.args.sent.now c.flown-item.result c.loop-flown.text c.write_sent.new._text c.args.text.now lt c.flown-item.is at c.loop-flown.invariant.text c.in_ok-write_sent.ensures;
+      text = sent_more c.args.tick c.args.first c.loop-flown.id i c.args.sent.now c.flown-item.result c.loop-flown.text c.write_sent.new.text c.args.text.now lt c.flown-item.is at c.loop-flown.invariant.text c.in_ok-write_sent.ensures.ok;
       id = omega (arith, c.saturating_add-id.ensures, at, lt, room);
     }
