@@ -78,11 +78,12 @@ before-bound until c w (Get id packet ∷ xs) le h = before-bound until c w xs l
 -- ---- histories
 
 pub goes_nowhere : (h : History) → GoesOn h h []
-goes_nowhere h = record { config = refl; steps = sym (append-nil h.steps); lawful = λ l. l }
+goes_nowhere h = record { config = refl; events = refl; steps = sym (append-nil h.steps); lawful = λ l. l }
 
 pub goes_then : (a b c : History) (xs ys : List Step) → GoesOn a b xs → GoesOn b c ys → GoesOn a c (xs ++ ys)
 goes_then a b c xs ys first second = record {
   config = second.config ∙ first.config;
+  events = second.events ∙ first.events;
   steps = second.steps ∙ ap (λ (l : List Step). l ++ ys) first.steps ∙ append_assoc a.steps xs ys;
   lawful = λ l. second.lawful (first.lawful l);
 }

@@ -9,9 +9,10 @@ use Rattle.sd_link.specs.World.{World}
 use Rattle.sd_link.specs.Steps.{Step, Tick, Send, Serve, Get, History, after, run, world_of, IsLawfulSoFar}
 use Rattle.sd_link.specs.Parts.{sends_in, got_in}
 
--- The history goes on by this part, whose steps may all happen, under the same configuration.
+-- The history goes on by this part, whose steps may all happen, under the same configuration and events.
 pub record GoesOn (old new : History) (part : List Step) : Type 0 where
   pub config : new.config ≡ old.config
+  pub events : new.events ≡ old.events
   pub steps : new.steps ≡ old.steps ++ part
   pub lawful : IsLawfulSoFar old → IsLawfulSoFar new
 

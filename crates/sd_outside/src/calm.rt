@@ -46,8 +46,8 @@ impl Source for CalmSource {
 
     fn read(&mut self, into: &mut [u8]) -> Result<usize, Failed> {
         let rest = &self.bytes.as_slice()[self.at..];
-        let count = rest.len().min(into.len());
-        copy_front(rest, into, count);
+        let most = into.len();
+        let count = copy_front(rest, into, most);
         self.at += count;
         Ok(count)
     }

@@ -2,7 +2,7 @@
 //!
 //! A source or a sink may tell the bytes that it has left or that were written, and it counts its faults.
 //! It answers `Failed` only where that count rose in the call, and no count ever falls.
-//! The calm objects in memory never fail.
+//! The calm objects in memory never fail, the others in memory fail as planned.
 #![tactic(auto)]
 
 mod bytes;
@@ -11,7 +11,10 @@ mod copying;
 mod errors;
 mod fhandle;
 mod list;
+mod mem_sink;
+mod mem_source;
 mod packet;
+mod planned;
 mod streams;
 
 pub use bytes::ByteList;
@@ -19,5 +22,7 @@ pub use calm::{CalmSink, CalmSource};
 pub use errors::{Failed, NoMemory};
 pub use fhandle::FHandle;
 pub use list::ListOf;
+pub use mem_sink::MemSink;
+pub use mem_source::MemSource;
 pub use packet::{Addr, Mac, Packet};
 pub use streams::{Sink, Source};

@@ -1,0 +1,159 @@
+-- The text of one command, and the transcript of one command more.
+use Rattle.std.proofs.Common.{◌≡◌, ℕ, ◌+◌, ◌≤◌, List, [], ◌∷◌, ◌++◌, length, take, Option, Some, None, Result, Ok, Err, refl, sym, ◌∙◌, ap, subst, arith, append_assoc}
+use Rattle.std.specs.Prelude.{IfSome}
+use Rattle.std.specs.List.{flat_map}
+use Rattle.std.proofs.lemmas.Grind.{flat_map-append}
+use Rattle.std.proofs.lemmas.List.{append-nil, append_cancel_left}
+use Rattle.sd_outside.specs.Streams.{Gains}
+use Rattle.sd_link.specs.declared.config.Config.{Config}
+use Rattle.sd_link.specs.declared.config.ClientConfig.{ClientConfig}
+use Rattle.sd_link.specs.Config.{IsFor}
+use Rattle.sd_link.specs.World.{World, start}
+use Rattle.sd_link.specs.Steps.{Step, Entry, History, world_of, whole_record, record_of, run}
+use Rattle.sd_link.specs.Text.{record_text, entry_text}
+use Rattle.sd_link.specs.Link.{GoesOn, Moves, Drains}
+use Rattle.sd_link.proofs.Histories.{record-append, run-append, world-goes, moves_then, moves_weaker}
+use Rattle.sd_script.specs.declared.script.Command.{Command}
+use Rattle.sd_script.specs.declared.told.Told.{Told}
+use Rattle.sd_script.specs.Answers.{answer_line}
+use Rattle.sd_claims.specs.Causes.{IsCaused}
+use Rattle.sd_claims.specs.Transcript.{Done, transcript, AllCaused}
+use Rattle.sd_claims.specs.Session.{IsSession, IsCutSession, parts_of}
+use Rattle.sd_boot_chain.specs.Writing.{GainsFront}
+use Rattle.sd_boot_chain.specs.Step.{IsStep}
+use Rattle.sd_boot_chain.proofs.Gaining.{gains_then, gains_nothing}
+
+-- the record goes on with the history
+pub record-goes : (a b : History) (xs : List Step) → GoesOn a b xs → whole_record b ≡ whole_record a ++ record_of a.config (world_of a) xs
+record-goes a b xs goes =
+    ap (λ (c : Config). record_of c (start c) b.steps) goes.config
+    ∙ ap (λ (l : List Step). record_of a.config (start a.config) l) goes.steps
+    ∙ record-append a.config (start a.config) a.steps xs
+
+-- what was drained is the text of the new entries
+pub new_lines : (a b : History) (xs : List Step) (old new added : List ℕ) → GoesOn a b xs → new ≡ old ++ added → old ≡ record_text (whole_record a) → new ≡ record_text (whole_record b)
+    → added ≡ record_text (record_of a.config (world_of a) xs)
+new_lines a b xs old new added goes drains was is =
+    append_cancel_left old added (record_text (record_of a.config (world_of a) xs))
+    (sym drains ∙ is ∙ ap record_text (record-goes a b xs goes) ∙ flat_map-append entry_text (whole_record a) (record_of a.config (world_of a) xs)
+    ∙ ap (λ (l : List ℕ). l ++ record_text (record_of a.config (world_of a) xs)) (sym was))
+
+-- a part leads to the history that is told now
+pub moves_to : (old new : Option History) (P : History → List Step → Type 0) (Q : History → Type 0) → IfSome new Q → Moves old new P → Moves old new (λ h part. (n : History) × GoesOn h n part × Q n × P h part)
+moves_to None None P Q q m = tt
+moves_to None (Some new) P Q q m = absurd m
+moves_to (Some old) None P Q q m = absurd m
+moves_to (Some old) (Some new) P Q q m = (m.0, m.1, (new, m.1, q, m.2))
+
+-- one command: its answer, the lines that were drained, and the answer line
+pub is_step : (old new : Option History) (config : ClientConfig) (command : Command) (answer : Told) (drained_old drained_new added text : List ℕ)
+    → Moves old new (λ h part. IsFor h.config config → IsCaused h.config command answer part)
+    → IfSome new (λ h. drained_new ≡ record_text (whole_record h))
+    → drained_new ≡ drained_old ++ added → text ≡ added ++ answer_line answer
+    → Moves old new (IsStep config command drained_old text)
+is_step old new config command answer drained_old drained_new added text moved whole drains is =
+    moves_weaker old new _ (IsStep config command drained_old text)
+    (λ h part m. record {
+      answer = answer;
+      caused = m.3;
+      shown = λ was. is ∙ ap (λ (l : List ℕ). l ++ answer_line answer) (new_lines h m.0 part drained_old drained_new added m.1 drains was m.2);
+    })
+    (moves_to old new _ (λ h. drained_new ≡ record_text (whole_record h)) whole moved)
+
+-- what holds of the history that is told goes with its next part
+pub moves_from : (old new : Option History) (P : History → List Step → Type 0) (Q : History → Type 0) → IfSome old Q → Moves old new P → Moves old new (λ h part. Q h × P h part)
+moves_from None None P Q q m = tt
+moves_from None (Some new) P Q q m = absurd m
+moves_from (Some old) None P Q q m = absurd m
+moves_from (Some old) (Some new) P Q q m = (m.0, m.1, (q, m.2))
+
+caused-push : (c : Config) (commands : List Command) (command : Command) (done : List Done) (d : Done) → AllCaused c commands done → IsCaused c command d.answer d.part → AllCaused c (commands ++ command ∷ []) (done ++ d ∷ [])
+caused-push c [] command [] d all one = (one, tt)
+caused-push c [] command (e ∷ es) d all one = absurd all
+caused-push c (k ∷ ks) command [] d all one = absurd all
+caused-push c (k ∷ ks) command (e ∷ es) d all one = (all.0, caused-push c ks command es d all.1 one)
+
+-- one command's text
+abbrev pub text_of : Config → World → Done → List ℕ
+text_of c w d = record_text (record_of c w d.part) ++ answer_line d.answer
+
+transcript-push : (c : Config) (w : World) (done : List Done) (d : Done) → transcript c w (done ++ d ∷ []) ≡ transcript c w done ++ text_of c (run c w (parts_of done)) d
+transcript-push c w [] d = ap (λ (l : List ℕ). record_text (record_of c w d.part) ++ l) (append-nil (answer_line d.answer))
+transcript-push c w (e ∷ es) d =
+    let w2 = run c w e.part in
+    let here = record_text (record_of c w e.part) in
+    let line = answer_line e.answer in
+    let last = text_of c (run c w2 (parts_of es)) d in
+    ap (λ (l : List ℕ). here ++ (line ++ l)) (transcript-push c w2 es d)
+    ∙ ap (λ (l : List ℕ). here ++ l) (sym (append_assoc line (transcript c w2 es) last))
+    ∙ sym (append_assoc here (line ++ transcript c w2 es) last)
+    ∙ ap (λ (v : World). (here ++ (line ++ transcript c w2 es)) ++ text_of c v d) (sym (run-append c w e.part (parts_of es)))
+
+parts-push : (done : List Done) (d : Done) → parts_of (done ++ d ∷ []) ≡ parts_of done ++ d.part
+parts-push done d = flat_map-append (λ e. e.part) done (d ∷ []) ∙ ap (λ (l : List Step). parts_of done ++ l) (append-nil d.part)
+
+pub session_none : (told : Option (List ℕ)) (h : History) → IsSession [] told told h []
+session_none told h = record { done = []; cut = refl; caused = tt; text = gains_nothing told }
+
+pub session_more : (config : ClientConfig) (commands : List Command) (command : Command) (before mid after : Option (List ℕ)) (drained text : List ℕ) (a b : History) (xs ys : List Step)
+    → GoesOn a b xs → IsFor a.config config → IsSession commands before mid a xs → drained ≡ record_text (whole_record b) → IsStep config command drained text b ys → Gains mid after text
+    → IsSession (commands ++ command ∷ []) before after a (xs ++ ys)
+session_more config commands command before mid after drained text a b xs ys goes is_for s was t gained =
+    let d : Done = record { part = ys; answer = t.answer } in
+    let same : b.config ≡ a.config = goes.config in
+    let is_for_b : IsFor b.config config = subst (λ (c : Config). IsFor c config) (sym same) is_for in
+    let caused : IsCaused a.config command t.answer ys = subst (λ (c : Config). IsCaused c command t.answer ys) same (t.caused is_for_b) in
+    let here : world_of b ≡ run a.config (world_of a) (parts_of s.done) = world-goes a b xs goes ∙ ap (λ (l : List Step). run a.config (world_of a) l) s.cut in
+    let shown : text ≡ text_of a.config (run a.config (world_of a) (parts_of s.done)) d =
+    t.shown was ∙ ap (λ (c : Config). text_of c (world_of b) d) same ∙ ap (λ (w : World). text_of a.config w d) here in
+    record {
+      done = s.done ++ d ∷ [];
+      cut = ap (λ (l : List Step). l ++ ys) s.cut ∙ sym (parts-push s.done d);
+      caused = caused-push a.config commands command s.done d s.caused caused;
+      text =
+          subst (λ (l : List ℕ). Gains before after l) (sym (transcript-push a.config (world_of a) s.done d))
+          (gains_then before mid after (transcript a.config (world_of a) s.done) (text_of a.config (run a.config (world_of a) (parts_of s.done)) d) s.text
+          (subst (λ (l : List ℕ). Gains mid after l) shown gained));
+    }
+
+-- ---- a session that ends early
+
+-- a command that ended without an answer
+pub session_cut : (commands : List Command) (n : ℕ) (before mid : Option (List ℕ)) (a : History) (xs ys : List Step) → IsSession (take n commands) before mid a xs → IsCutSession commands before mid a (xs ++ ys)
+session_cut commands n before mid a xs ys s = record {
+  count = n;
+  done = s.done;
+  more = ys;
+  cut = ap (λ (l : List Step). l ++ ys) s.cut;
+  caused = s.caused;
+  front = transcript a.config (world_of a) s.done;
+  short = ([], append-nil (transcript a.config (world_of a) s.done));
+  text = s.text;
+}
+
+-- a command whose text was written in part
+pub session_stops : (config : ClientConfig) (commands : List Command) (n : ℕ) (command : Command) (before mid after : Option (List ℕ)) (drained text : List ℕ) (a b : History) (xs ys : List Step)
+    → take (n + 1) commands ≡ take n commands ++ command ∷ []
+    → GoesOn a b xs → IsFor a.config config → IsSession (take n commands) before mid a xs → drained ≡ record_text (whole_record b) → IsStep config command drained text b ys → GainsFront mid after text
+    → IsCutSession commands before after a (xs ++ ys)
+session_stops config commands n command before mid after drained text a b xs ys more goes is_for s was t gained =
+    let d : Done = record { part = ys; answer = t.answer } in
+    let same : b.config ≡ a.config = goes.config in
+    let is_for_b : IsFor b.config config = subst (λ (c : Config). IsFor c config) (sym same) is_for in
+    let caused : IsCaused a.config command t.answer ys = subst (λ (c : Config). IsCaused c command t.answer ys) same (t.caused is_for_b) in
+    let here : world_of b ≡ run a.config (world_of a) (parts_of s.done) = world-goes a b xs goes ∙ ap (λ (l : List Step). run a.config (world_of a) l) s.cut in
+    let last = text_of a.config (run a.config (world_of a) (parts_of s.done)) d in
+    let shown : text ≡ last = t.shown was ∙ ap (λ (c : Config). text_of c (world_of b) d) same ∙ ap (λ (w : World). text_of a.config w d) here in
+    let so_far = transcript a.config (world_of a) s.done in
+    let whole : (so_far ++ gained.0) ++ gained.1.0 ≡ transcript a.config (world_of a) (s.done ++ d ∷ []) =
+    append_assoc so_far gained.0 gained.1.0 ∙ ap (λ (l : List ℕ). so_far ++ l) (gained.1.1 ∙ shown) ∙ sym (transcript-push a.config (world_of a) s.done d) in
+    record {
+      count = n + 1;
+      done = s.done ++ d ∷ [];
+      more = [];
+      cut = ap (λ (l : List Step). l ++ ys) s.cut ∙ sym (parts-push s.done d) ∙ sym (append-nil (parts_of (s.done ++ d ∷ [])));
+      caused = subst (λ (l : List Command). AllCaused a.config l (s.done ++ d ∷ [])) (sym more) (caused-push a.config (take n commands) command s.done d s.caused caused);
+      front = so_far ++ gained.0;
+      short = (gained.1.0, whole);
+      text = gains_then before mid after so_far gained.0 s.text gained.2;
+    }

@@ -1,0 +1,4 @@
+pub mod Client
+pub mod Pause
+pub mod Step
+pub mod Writing

@@ -1,0 +1,25 @@
+-- What a pause shows.
+use Rattle.std.specs.Prelude.{◌≡◌, ℕ, ◌<◌, ◌≤◌, List, [], length}
+use Rattle.sd_link.specs.Steps.{Step, History, world_of, run}
+use Rattle.sd_link.specs.Parts.{sends_in, got_in}
+use Rattle.sd_claims.specs.Tries.{flood_limit}
+use Rattle.sd_claims.specs.Waiting.{Waited, WaitFlooded}
+use Rattle.sd_boot_chain.specs.Client.{StaysBefore}
+use Rattle.sd_boot_chain.specs.declared.pause.Pause.{Pause}
+use Rattle.sd_boot_chain.specs.declared.pause.Pause.TheVariants.{Over, Flood, Fault}
+
+abbrev pub Ended : ℕ → Pause → History → List Step → Type 0
+Ended until Over old part = (until ≤ (run old.config (world_of old) part).tick) × (length (got_in part) < flood_limit)
+Ended until Flood old part = length (got_in part) ≡ flood_limit
+Ended until Fault old part = Unit {0}
+
+-- the client only gets packets, until this tick
+pub record Passes (until : ℕ) (pause : Pause) (old : History) (part : List Step) : Type 0 where
+  pub silent : sends_in part ≡ []
+  pub ticks : StaysBefore until old part
+  pub ended : Ended until pause old part
+
+abbrev pub IsPause : ℕ → Pause → History → List Step → Type 0
+IsPause ticks Over old part = Waited ticks part
+IsPause ticks Flood old part = WaitFlooded ticks part
+IsPause ticks Fault old part = Unit {0}

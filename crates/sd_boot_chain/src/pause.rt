@@ -1,0 +1,74 @@
+//! How the client lets time pass.
+ghost use Rattle.std.specs.Prelude.{◌≡◌, ◌≤◌, IfOk, Ok};
+ghost use Rattle.sd_outside.specs.Causes.{Rose};
+ghost use Rattle.sd_link.specs.Link.{Moves};
+ghost use Rattle.sd_claims.specs.Causes.{IsCaused};
+ghost use Rattle.sd_boot_chain.specs.Step.{IsFault};
+ghost use Rattle.sd_boot_chain.specs.Client.{Lasts, StaysBefore, most_ticks};
+ghost use Rattle.sd_boot_chain.specs.Pause.{Passes, IsPause};
+
+use crate::address::FLOOD;
+use sd_link::{Link, LinkError};
+use sd_outside::NoMemory;
+use sd_script::{Command, Told};
+
+/// How a pause ended.
+#[derive(Clone, Copy)]
+enum Pause {
+    /// The time passed.
+    Over,
+    /// So many packets came that it ends.
+    Flood,
+    /// The link failed.
+    Fault,
+}
+
+/// Gets packets and drops them until this tick is reached.
+fn drop_until<L: Link>(link: &mut L, until: u64) -> Result<Pause, NoMemory>
+    ensures told { IfOk result (λ pause. Moves (L.told link.old) (L.told link.new) (Passes until pause)) }
+    ensures goes { Moves (L.told link.old) (L.told link.new) (StaysBefore until) }
+    ensures fault { IfOk result (λ pause. pause ≡ Pause.Fault → Rose (L.faults link.old) (L.faults link.new)) }
+    ensures faults { L.faults link.old ≤ L.faults link.new }
+    ensures drained { L.drained link.new ≡ L.drained link.old }
+{
+    for count in 0..FLOOD {
+        match link.recv(until) {
+            Ok(Some(packet)) => drop(packet),
+            Ok(None) => return Ok(Pause::Over),
+            Err(LinkError::Failed) => return Ok(Pause::Fault),
+            Err(LinkError::NoMemory) => return Err(NoMemory),
+        }
+    }
+    Ok(Pause::Flood)
+}
+
+/// Lets so many ticks pass.
+fn pass_ticks<L: Link>(link: &mut L, ticks: u64) -> Result<Pause, NoMemory>
+    requires { ticks ≤ 100000 }
+    ensures told { IfOk result (λ pause. Moves (L.told link.old) (L.told link.new) (IsPause ticks pause)) }
+    ensures goes { Lasts most_ticks (L.told link.old) (L.told link.new) }
+    ensures fault { IfOk result (λ pause. pause ≡ Pause.Fault → Rose (L.faults link.old) (L.faults link.new)) }
+    ensures faults { L.faults link.old ≤ L.faults link.new }
+    ensures drained { L.drained link.new ≡ L.drained link.old }
+{
+    let until = link.now() + ticks;
+    drop_until(link, until)
+}
+
+/// Lets so many ticks pass, and answers how that went.
+pub(crate) fn wait<L: Link>(link: &mut L, ticks: u64) -> Result<Told, NoMemory>
+    requires { ticks ≤ 100000 }
+    ensures goes { Lasts most_ticks (L.told link.old) (L.told link.new) }
+    // Over a link that tells, and whose count of faults didn't rise, the answer is earned or caused by what happened.
+    ensures caused { (Rose (L.faults link.old) (L.faults link.new) → ⊥) → IfOk result (λ answer.
+        Moves (L.told link.old) (L.told link.new) (λ old part. IsCaused old.config (Command.Wait ticks) answer part)) }
+    ensures fault { IfOk result (λ answer. IsFault answer → Rose (L.faults link.old) (L.faults link.new)) }
+    ensures faults { L.faults link.old ≤ L.faults link.new }
+    ensures drained { L.drained link.new ≡ L.drained link.old }
+{
+    match pass_ticks(link, ticks)? {
+        Pause::Over => Ok(Told::WaitOk { ticks }),
+        Pause::Flood => Ok(Told::WaitFlood { ticks }),
+        Pause::Fault => Ok(Told::WaitLinkFault { ticks }),
+    }
+}

@@ -1,0 +1,123 @@
+//! A list of commands, done one after another over any link.
+ghost use Rattle.std.specs.Prelude.{◌≡◌, ◌≤◌, length, IfOk, OnOk, OnErr, IfSome, IsErrOf};
+ghost use Rattle.std.specs.List.{All};
+ghost use Rattle.sd_outside.specs.Causes.{Rose};
+ghost use Rattle.sd_link.specs.Config.{IsFor, IsClientConfig};
+ghost use Rattle.sd_link.specs.Steps.{whole_record};
+ghost use Rattle.sd_link.specs.Text.{record_text};
+ghost use Rattle.sd_link.specs.Link.{Moves};
+ghost use Rattle.sd_script.specs.Limits.{command_limit};
+ghost use Rattle.sd_script.specs.Rules.{IsCommand};
+ghost use Rattle.sd_claims.specs.Session.{IsSession, IsCutSession};
+ghost use Rattle.sd_boot_chain.specs.Client.{Lasts, most_ticks, most_session_ticks};
+ghost use Rattle.sd_boot_chain.specs.Step.{IsStep};
+
+use crate::client::Client;
+use crate::writing::write_all;
+use sd_link::{ClientConfig, Link};
+use sd_outside::{ByteList, Failed, NoMemory, Sink};
+use sd_script::{Command, CommandList, write_answer};
+use std::alloc::Global;
+
+/// Why a session ended before its commands did.
+#[derive(Clone, Copy, Debug, PartialEq, Eq)]
+pub enum SessionError {
+    /// The sink failed, and counted it.
+    SinkFault,
+    /// Want of memory.
+    NoMemory,
+}
+
+impl From<NoMemory> for SessionError {
+    ghost use Rattle.std.specs.Prelude.{◌≡◌};
+    ghost use Rattle.sd_boot_chain.specs.declared.transcript.SessionError.TheVariants as errors;
+
+    ghost from_gives = { λ _ e. e ≡ errors.NoMemory };
+
+    fn from(_: NoMemory) -> Self {
+        SessionError::NoMemory
+    }
+}
+
+/// Does one command, and gives its record lines and its answer line.
+fn text_of<L: Link>(
+    alloc: Global,
+    client: &mut Client,
+    link: &mut L,
+    command: &Command,
+) -> Result<ByteList, NoMemory>
+    requires { IsCommand command.now }
+    ensures done { (Rose (L.faults link.old) (L.faults link.new) → ⊥) → IfOk result (λ text.
+        Moves (L.told link.old) (L.told link.new) (IsStep client.old command.now (L.drained link.old) text)) }
+    ensures lasts { Lasts most_ticks (L.told link.old) (L.told link.new) }
+    ensures drained { OnOk result (IfSome (L.told link.new) (λ h. L.drained link.new ≡ record_text (whole_record h))) }
+    ensures faults { L.faults link.old ≤ L.faults link.new }
+    ensures same { client.new ≡ client.old }
+{
+    let answer = client.step(link, command)?;
+    let mut text = ByteList::empty(alloc);
+    link.drain(&mut text)?;
+    write_answer(alloc, &answer, &mut text)?;
+    Ok(text)
+}
+
+/// Does each command in turn, and writes its record lines and its answer line.
+fn do_all<L: Link, K: Sink>(
+    alloc: Global,
+    client: &mut Client,
+    link: &mut L,
+    commands: &[Command],
+    sink: &mut K,
+) -> Result<(), SessionError>
+    requires commands { All IsCommand commands.now }
+    requires few { length commands.now ≤ command_limit }
+    requires drained { IfSome (L.told link.old) (λ h. L.drained link.old ≡ record_text (whole_record h)) }
+    ensures done { (Rose (L.faults link.old) (L.faults link.new) → ⊥) → OnOk result (
+        Moves (L.told link.old) (L.told link.new) (λ old part. IsFor old.config client.old →
+        IsSession commands.now (K.written sink.old) (K.written sink.new) old part)) }
+    ensures cut { (Rose (L.faults link.old) (L.faults link.new) → ⊥) → OnErr result (
+        Moves (L.told link.old) (L.told link.new) (λ old part. IsFor old.config client.old →
+        IsCutSession commands.now (K.written sink.old) (K.written sink.new) old part)) }
+    ensures lasts { Lasts most_session_ticks (L.told link.old) (L.told link.new) }
+    ensures fault { IsErrOf result SessionError.SinkFault → Rose (K.faults sink.old) (K.faults sink.new) }
+    ensures faults { L.faults link.old ≤ L.faults link.new }
+    ensures sink { K.faults sink.old ≤ K.faults sink.new }
+{
+    for command in commands {
+        let text = text_of(alloc, client, link, command)?;
+        match write_all(sink, text.as_slice()) {
+            Ok(()) => {}
+            Err(Failed) => return Err(SessionError::SinkFault),
+        }
+    }
+    Ok(())
+}
+
+/// Does the commands of a client that was just switched on, and writes the transcript.
+pub fn session<L: Link, K: Sink>(
+    alloc: Global,
+    link: &mut L,
+    config: ClientConfig,
+    commands: &CommandList,
+    sink: &mut K,
+) -> Result<(), SessionError>
+    requires config { IsClientConfig config }
+    requires commands { All IsCommand commands.now }
+    requires drained { IfSome (L.told link.old) (λ h. L.drained link.old ≡ record_text (whole_record h)) }
+    // Over a link that tells, and whose count of faults didn't rise, the output is the transcript of what happened.
+    ensures done { (Rose (L.faults link.old) (L.faults link.new) → ⊥) → OnOk result (
+        Moves (L.told link.old) (L.told link.new) (λ old part. IsFor old.config config →
+        IsSession commands.now (K.written sink.old) (K.written sink.new) old part)) }
+    // After a refusal the output is a front of such a transcript, of the first so many commands.
+    ensures cut { (Rose (L.faults link.old) (L.faults link.new) → ⊥) → OnErr result (
+        Moves (L.told link.old) (L.told link.new) (λ old part. IsFor old.config config →
+        IsCutSession commands.now (K.written sink.old) (K.written sink.new) old part)) }
+    // Whatever comes of it, a link that tells goes on telling.
+    ensures lasts { Lasts most_session_ticks (L.told link.old) (L.told link.new) }
+    ensures fault { IsErrOf result SessionError.SinkFault → Rose (K.faults sink.old) (K.faults sink.new) }
+    ensures faults { L.faults link.old ≤ L.faults link.new }
+    ensures sink { K.faults sink.old ≤ K.faults sink.new }
+{
+    let mut client = Client::new(alloc, config)?;
+    do_all(alloc, &mut client, link, commands.as_slice(), sink)
+}

@@ -1,0 +1,72 @@
+-- What `replay` writes.
+use Rattle.std.specs.Prelude.{◌≡◌, ◌⊎◌, ℕ, List, [], ◌∷◌, ◌++◌, map, take, codes, Option, Some, None}
+use Rattle.std.specs.Fmt.{decimal}
+use Rattle.sd_outside.specs.Streams.{Gains}
+use Rattle.sd_link.specs.World.{start}
+use Rattle.sd_link.specs.Events.{fates_of}
+use Rattle.sd_link.specs.Lawful.{IsLawful, IsFrontOf}
+use Rattle.sd_script.specs.declared.script.Command.{Command}
+use Rattle.sd_script.specs.declared.script.Script.{Script}
+use Rattle.sd_script.specs.Grammar.{IsScript, IsFirstOutside}
+use Rattle.sd_claims.specs.Machine.{first_state, IsRun}
+use Rattle.sd_claims.specs.Transcript.{Done, transcript, AllCaused}
+use Rattle.sd_claims.specs.Session.{parts_of}
+
+-- These commands of the script were done so: the run is one that the network owes the script, from the start on;
+-- the answers are those of the boot machine; and each is earned or caused by its part.
+pub record AreDone (s : Script) (commands : List Command) (done : List Done) : Type 0 where
+  pub lawful : IsLawful s.config (fates_of s.events) (parts_of done)
+  pub machine : IsRun s.config first_state commands (map (λ d. d.answer) done)
+  pub caused : AllCaused s.config commands done
+
+abbrev pub written : Script → List Done → List ℕ
+written s done = transcript s.config (start s.config) done
+
+-- the whole transcript of a script
+pub record Plays (s : Script) (out : List ℕ) : Type 0 where
+  pub done : List Done
+  pub all : AreDone s s.commands done
+  pub whole : out ≡ written s done
+
+-- a front of a transcript of its first so many commands
+pub record PlaysFront (s : Script) (out : List ℕ) : Type 0 where
+  pub count : ℕ
+  pub done : List Done
+  pub some : AreDone s (take count s.commands) done
+  pub front : IsFrontOf out (written s done)
+
+-- the whole transcript of the script that the text spells
+pub record IsTranscript (text out : List ℕ) : Type 0 where
+  pub script : Script
+  pub spelled : IsScript text script
+  pub plays : Plays script out
+
+abbrev pub refusal_line : ℕ → List ℕ
+refusal_line n = codes "refused line " ++ decimal n ++ 10 ∷ []
+
+-- the refusal of a text that spells no script: it names the first line outside the grammar
+pub record IsRefusal (text out : List ℕ) : Type 0 where
+  pub line : ℕ
+  pub first : IsFirstOutside text line
+  pub whole : out ≡ refusal_line line
+
+-- a front of a transcript, for the first so many commands
+pub record IsCutShort (text out : List ℕ) : Type 0 where
+  pub script : Script
+  pub spelled : IsScript text script
+  pub plays : PlaysFront script out
+
+-- a front of a refusal
+pub record IsCutRefusal (text out : List ℕ) : Type 0 where
+  pub full : List ℕ
+  pub refusal : IsRefusal text full
+  pub front : IsFrontOf out full
+
+-- a front of what would have been written; nothing is a front of both
+abbrev pub IsFront : List ℕ → List ℕ → Type 0
+IsFront text out = (out ≡ []) ⊎ IsCutShort text out ⊎ IsCutRefusal text out
+
+-- Where the source tells the text, the sink gained bytes of which P holds.
+abbrev pub Writes : Option (List ℕ) → Option (List ℕ) → Option (List ℕ) → (List ℕ → List ℕ → Type 0) → Type 0
+Writes None old new P = Unit {0}
+Writes (Some text) old new P = (out : List ℕ) × Gains old new out × P text out
