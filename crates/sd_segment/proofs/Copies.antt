@@ -10,7 +10,7 @@ copies-append id sent tick (d ∷ ds) ys = of (sent + d == tick) (copies-append 
   where
     of : (b : Bool) → copies id sent tick (ds ++ ys) ≡ copies id sent tick ds ++ copies id sent tick ys
         → map (λ e. id) (cond b (d ∷ filter (λ e. sent + e == tick) (ds ++ ys)) (filter (λ e. sent + e == tick) (ds ++ ys)))
-            ≡ map (λ e. id) (cond b (d ∷ filter (λ e. sent + e == tick) ds) (filter (λ e. sent + e == tick) ds)) ++ copies id sent tick ys
+        ≡ map (λ e. id) (cond b (d ∷ filter (λ e. sent + e == tick) ds) (filter (λ e. sent + e == tick) ds)) ++ copies id sent tick ys
     of true so = ap (λ l. id ∷ l) so
     of false so = so
 

@@ -170,6 +170,7 @@ sound_served s id f fate out i next at is room fated =
     fated_out (Some p) =
         let here : 0 + length s.flight ≡ length s.flight = omega arith in
         fated-push s.events.fates 0 s.flight (reply_of s.tick fate p) i.fated (fated ∙ ap (λ (n : ℕ). fate_in s.events.fates n) (sym here))
+
     few_out : (o : Option Packet) → length (s.flight ++ replied s.tick fate (packets_in o)) ≤ last_tick
     few_out None = omega (arith, i.ids, length-append s.flight [])
     few_out (Some p) = omega (arith, room, length-append s.flight (reply_of s.tick fate p ∷ []))

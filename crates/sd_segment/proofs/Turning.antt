@@ -228,9 +228,10 @@ pub turn_got : (c : Config) (fates : Fates) (flight : List Flown) (kept : List K
 turn_got c fates flight kept tick id packet to_server to_client k t timely none next is =
     let parts : id ∷ drop 1 to_client ≡ to_client = first_of to_client id next in
     subst (λ (l : List Flown). Turns c fates l (kept ++ record { tick = tick; what = Got id } ∷ []) tick to_server (drop 1 to_client)) (append-nil flight)
-    (turn_step c fates flight [] kept tick (Got id) (Get id packet) to_server to_client to_server (drop 1 to_client) k t timely tt is
-    (all_served (served_at tick (entries_kept flight kept)) to_server (due_to_server c fates (world_at c flight tick)) t.server none,
-    next_front (got_at tick (entries_kept flight kept)) (drop 1 to_client) (due_to_client c fates (world_at c flight tick)) id (ap (λ (l : List ℕ). got_at tick (entries_kept flight kept) ++ l) parts ∙ t.client))
+    (turn_step c fates flight [] kept tick (Got id) (Get id packet) to_server to_client to_server (drop 1 to_client) k t timely tt is (
+      all_served (served_at tick (entries_kept flight kept)) to_server (due_to_server c fates (world_at c flight tick)) t.server none,
+      next_front (got_at tick (entries_kept flight kept)) (drop 1 to_client) (due_to_client c fates (world_at c flight tick)) id (ap (λ (l : List ℕ). got_at tick (entries_kept flight kept) ++ l) parts ∙ t.client),
+    )
     refl
     (ap (λ (l : List ℕ). l ++ drop 1 to_client) (got_here (flight ++ []) tick id) ∙ parts))
 

@@ -68,7 +68,7 @@ none_left (x ∷ xs) next is none = absurd (cc)
 -- ---- a wait
 
 pub goes_of : (old new : SegmentView) (part : List Step) → Passes old new part → GoesOn (history_of old) (history_of new) part
-goes_of old new part p = record { config = p.config; steps = p.steps; lawful = λ l. p.lawful }
+goes_of old new part p = record { config = p.config; events = p.events; steps = p.steps; lawful = λ l. p.lawful }
 
 pub went_goes : (old new : SegmentView) (part : List Step) → WentOn old new part → GoesOn (history_of old) (history_of new) part
 went_goes old new part (inr p) = goes_of old new part p
@@ -124,12 +124,15 @@ module _ (until : ℕ) (old mid new : SegmentView) (part ys : List Step) (w : Wa
 
 -- one tick more
 pub waits_more : (until : ℕ) (old mid new : SegmentView) (part : List Step) → Waits until old mid part → mid.tick < until → Advances mid new → (more : List Step) × Waits until old new more
-waits_more until old mid new part w lt (served, p, all) = (part ++ (Tick ∷ served), record {
-  went = inr (went_then old mid new part (Tick ∷ served) w.went p);
-  silent = silent_then until old mid new part (Tick ∷ served) w (serves-silent served all);
-  got = got_then until old mid new part (Tick ∷ served) w (serves-got served all);
-  ticks = ticks_then until old mid new part (Tick ∷ served) w (omega (arith, p.stood), serves-ticks until old.config (after old.config (world_of (history_of mid)) Tick) served all);
-})
+waits_more until old mid new part w lt (served, p, all) = (
+  part ++ (Tick ∷ served),
+  record {
+    went = inr (went_then old mid new part (Tick ∷ served) w.went p);
+    silent = silent_then until old mid new part (Tick ∷ served) w (serves-silent served all);
+    got = got_then until old mid new part (Tick ∷ served) w (serves-got served all);
+    ticks = ticks_then until old mid new part (Tick ∷ served) w (omega (arith, p.stood), serves-ticks until old.config (after old.config (world_of (history_of mid)) Tick) served all);
+  },
+)
 
 -- one tick more, or none
 pub waits_if : (until : ℕ) (old mid new : SegmentView) (part : List Step) → Waits until old mid part → mid.tick < until → (new ≡ mid) ⊎ Advances mid new → (more : List Step) × Waits until old new more

@@ -35,7 +35,7 @@ pub record SegmentView : Type 0 where
 
 -- the history that a segment tells
 abbrev pub history_of : SegmentView → History
-history_of s = record { config = s.config; steps = steps_kept s.flight s.kept s.tick }
+history_of s = record { config = s.config; events = s.events; steps = steps_kept s.flight s.kept s.tick }
 
 -- the text that was drained
 abbrev pub text_drained : SegmentView → List ℕ

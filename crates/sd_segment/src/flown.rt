@@ -23,7 +23,9 @@ pub struct Flown {
 #[derive(Clone, Copy, Debug, PartialEq, Eq)]
 pub enum What {
     /// The client sent a packet.
-    Sent { id: usize },
+    Sent {
+        id: usize,
+    },
     /// A packet came to the server, which sent so many packets, with ids from `first` on.
     Served {
         id: usize,
@@ -31,7 +33,9 @@ pub enum What {
         count: usize,
     },
     /// A packet came to the client.
-    Got { id: usize },
+    Got {
+        id: usize,
+    },
 }
 
 /// What happened, and when.

@@ -10,11 +10,7 @@ use sd_rarp::{answer, read_frame, write_frame};
 use std::alloc::Global;
 
 /// The reply to a frame (RFC 903).
-fn reply_to_frame(
-    alloc: Global,
-    config: &Config,
-    bytes: &[u8],
-) -> Result<Option<Packet>, NoMemory>
+fn reply_to_frame(alloc: Global, config: &Config, bytes: &[u8]) -> Result<Option<Packet>, NoMemory>
     ensures { IfOk result (λ out. packets_in out ≡ rarp_out config.now bytes.now) }
 {
     let Ok(frame) = read_frame(bytes) else {
@@ -22,10 +18,7 @@ fn reply_to_frame(
     };
     let table = [(config.client.mac, config.client.ip)];
     match answer(&table, (config.server.mac, config.server.ip), &frame) {
-        Some(frame) => Ok(Some(Packet::Frame(ByteList::from_slice(
-            alloc,
-            &write_frame(&frame),
-        )?))),
+        Some(frame) => Ok(Some(Packet::Frame(ByteList::from_slice(alloc, &write_frame(&frame))?))),
         None => Ok(None),
     }
 }

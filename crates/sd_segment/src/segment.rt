@@ -64,8 +64,7 @@ impl Segment {
     pub fn new(alloc: Global, config: Config, events: Events) -> Segment
         requires life { 2 ≤ config.life }
         requires events { IsEvents config events }
-        ensures told { history_of result ≡ record { config = config; steps = [] } }
-        ensures events { result.events ≡ events }
+        ensures told { history_of result ≡ record { config = config; events = events; steps = [] } }
         ensures drained { text_drained result ≡ [] }
         ensures faults { result.faults ≡ 0 }
         ensures handed { result.handed ≡ 0 }
@@ -88,7 +87,7 @@ impl Segment {
 
     /// What holds of every segment, whatever calls were made.
     pub fn facts(&self)
-        ensures lawful { IsLawful self.now.config (fates_of self.now.events) (history_of self.now).steps }
+        ensures lawful { let h = history_of self.now in IsLawful h.config (fates_of h.events) h.steps }
         ensures bounded { IsBounded (history_of self.now) }
         ensures faults { (self.now.faults ≡ 0) ⊎ (self.now.tick ≡ last_tick) }
     {
