@@ -1,0 +1,63 @@
+-- The fates of packets, by their ids.
+use Rattle.std.proofs.Common.{◌≡◌, ℕ, zero, suc, ◌+◌, ◌-◌, ◌<◌, ◌≤◌, Bool, true, false, cond, List, [], ◌∷◌, ◌++◌, length, get_or, drop, ◌==◌, Option, Some, refl, sym, ◌∙◌, ap, subst, arith, eq-eqb}
+use Rattle.std.specs.Prelude.{slice_get, slice_index_or}
+use Rattle.std.specs.List.{All, AllByRecursion}
+use Rattle.sd_link.specs.declared.events.Fate.{Fate}
+use Rattle.sd_link.specs.Config.{IsWithin}
+use Rattle.sd_link.specs.Events.{Fates, fate_in, IsFate}
+use Rattle.sd_segment.specs.declared.flown.Flown.{Flown}
+use Rattle.sd_segment.specs.Flight.{delays_of, delays_or, AllFated}
+
+-- ---- the first fate with an id
+
+pub fate_here : (fates : List Fate) (n id : ℕ) (f : Fate) → n < length fates → (get_or fates n f).id ≡ id → delays_of fates (Some n) ≡ fate_in (drop n fates) id
+fate_here [] n id f lt is = absurd (omega arith)
+fate_here (g ∷ gs) zero id f lt is = ap (λ (b : Bool). cond b g.delays (fate_in gs id)) (sym (eq-eqb g.id id is))
+fate_here (g ∷ gs) (suc n) id f lt is = fate_here gs n id f (omega arith) is
+
+-- ---- packets with their fates
+
+pub fated-at : (fates : List Fate) (id : ℕ) (flight : List Flown) (i : ℕ) (f : Flown) → AllFated fates id flight → i < length flight → f ≡ get_or flight i f → delays_of fates f.fate ≡ fate_in fates (id + i)
+fated-at fates id [] i f all lt at = absurd (omega arith)
+fated-at fates id (g ∷ gs) zero f all lt at =
+    let here : id ≡ id + 0 = omega arith in
+    ap (λ (x : Flown). delays_of fates x.fate) at ∙ all.0 ∙ ap (λ (n : ℕ). fate_in fates n) here
+fated-at fates id (g ∷ gs) (suc i) f all lt at =
+    let here : id + 1 + i ≡ id + suc i = omega arith in
+    fated-at fates (id + 1) gs i f all.1 (omega arith) at ∙ ap (λ (n : ℕ). fate_in fates n) here
+
+pub fated-push : (fates : List Fate) (id : ℕ) (flight : List Flown) (f : Flown) → AllFated fates id flight → delays_of fates f.fate ≡ fate_in fates (id + length flight) → AllFated fates id (flight ++ f ∷ [])
+fated-push fates id [] f all is =
+    let here : id + 0 ≡ id = omega arith in
+    (is ∙ ap (λ (n : ℕ). fate_in fates n) here, tt)
+fated-push fates id (g ∷ gs) f all is =
+    let here : id + suc (length gs) ≡ id + 1 + length gs = omega arith in
+    (all.0, fated-push fates (id + 1) gs f all.1 (is ∙ ap (λ (n : ℕ). fate_in fates n) here))
+
+-- ---- the delays of every packet
+
+-- after the packet was sent, and within its life
+abbrev pub AllTimely : ℕ → List ℕ → Type 0
+AllTimely life delays = AllByRecursion (λ d. (1 ≤ d) × (d < life)) delays
+
+pub record IsTimely (life : ℕ) (fates : Fates) : Type 0 where
+  pub delays : (id : ℕ) → AllTimely life (fates id)
+
+all_of : {A : Type 0} (P : A → Type 0) (xs : List A) → All P xs → AllByRecursion P xs
+all_of P [] all = tt
+all_of P (x ∷ xs) all = (all 0 x (omega arith), all_of P xs (λ k d lt. all (suc k) d (omega arith)))
+
+timely_within : (life : ℕ) (delays : List ℕ) → 2 ≤ life → AllByRecursion (IsWithin 1 (life - 1)) delays → AllTimely life delays
+timely_within life [] two all = tt
+timely_within life (d ∷ ds) two all = ((all.0.0, omega (arith, all.0.1)), timely_within life ds two all.1)
+
+timely_in : (life : ℕ) (fates : List Fate) (id : ℕ) → 2 ≤ life → AllByRecursion (IsFate life) fates → AllTimely life (fate_in fates id)
+timely_in life [] id two all = ((omega arith, omega arith), tt)
+timely_in life (f ∷ fs) id two all = of (f.id == id) (timely_in life fs id two all.1)
+  where
+    of : (b : Bool) → AllTimely life (fate_in fs id) → AllTimely life (cond b f.delays (fate_in fs id))
+    of true rest = timely_within life f.delays two (all_of (IsWithin 1 (life - 1)) f.delays all.0.delays)
+    of false rest = rest
+
+pub timely : (life : ℕ) (fates : List Fate) → 2 ≤ life → All (IsFate life) fates → IsTimely life (fate_in fates)
+timely life fates two all = record { delays = λ id. timely_in life fates id two (all_of (IsFate life) fates all) }

@@ -1,0 +1,299 @@
+-- A segment goes on by one step.
+use Rattle.std.proofs.Common.{◌≡◌, ℕ, zero, suc, ◌+◌, ◌<◌, ◌≤◌, Bool, List, [], ◌∷◌, ◌++◌, length, get_or, take, drop, map, Option, Some, None, refl, sym, ◌∙◌, ap, subst, arith, length-append, append_assoc, inl, inr}
+use Rattle.std.specs.Prelude.{slice_get, ◌⊎◌}
+use Rattle.std.specs.List.{AllByRecursion}
+use Rattle.std.proofs.lemmas.List.{append-nil, take-append-le, length-map}
+use Rattle.sd_outside.specs.declared.packet.Packet.{Packet}
+use Rattle.sd_outside.specs.declared.packet.Packet.TheVariants.{Frame, Udp}
+use Rattle.sd_link.specs.declared.config.Config.{Config}
+use Rattle.sd_link.specs.declared.events.Fate.{Fate}
+use Rattle.sd_link.specs.Events.{fates_of, fate_in}
+use Rattle.sd_link.specs.World.{World, Flying, Sender, start}
+use Rattle.sd_link.specs.Reply.{out_of}
+use Rattle.sd_link.specs.Steps.{Step, Tick, Send, Serve, Get, goes_to_server, goes_to_client, world_of}
+use Rattle.sd_link.specs.Lawful.{served_at, got_at, due_to_server, due_to_client, IsLawful}
+use Rattle.sd_link.specs.Link.{last_tick, IsBounded}
+use Rattle.sd_link.specs.Text.{record_text}
+use Rattle.sd_segment.specs.declared.flown.Origin.TheVariants as origin
+use Rattle.sd_segment.specs.declared.flown.Flown.{Flown}
+use Rattle.sd_segment.specs.declared.flown.Kept.{Kept}
+use Rattle.sd_segment.specs.declared.flown.What.TheVariants.{Sent, Served, Got}
+use Rattle.sd_segment.specs.Flight.{flying_of, packet_or, packets_in, replied, reply_of, delays_of, AllFated}
+use Rattle.sd_segment.specs.Kept.{steps_kept, entries_kept, ids_end}
+use Rattle.sd_segment.specs.Segment.{SegmentView, IsSound, world_at, history_of, text_drained}
+use Rattle.sd_segment.specs.Passing.{Passes}
+use Rattle.sd_segment.proofs.Fates.{IsTimely, timely, fated-push}
+use Rattle.sd_segment.proofs.Dues.{IsComing, all_coming, all-suffix}
+use Rattle.sd_segment.proofs.Keeping.{kept-push, kept-grow, tick-push, get-last, keep_sent, keep_served, keep_got, keep_tick}
+use Rattle.sd_segment.proofs.Turning.{turn_sent, turn_served, turn_got, turn_tick}
+
+-- ---- what a sound segment knows
+
+pub timely_of : (s : SegmentView) → IsSound s → IsTimely s.config.life (fates_of s.events)
+timely_of s i = timely s.config.life s.events.fates i.life i.events.fates
+
+pub bounded_of : (s : SegmentView) → IsSound s → IsBounded (history_of s)
+bounded_of s i = record {
+  tick = omega (arith, i.tick, ap (λ (w : World). w.tick) i.keeps.world);
+  ids = omega (arith, i.ids, ap (λ (w : World). length w.flight) i.keeps.world, length-map s.flight flying_of);
+}
+
+pub lawful_of : (s : SegmentView) → IsSound s → IsLawful s.config (fates_of s.events) (steps_kept s.flight s.kept s.tick)
+lawful_of s i = record { allowed = i.keeps.allowed; in_turn = i.turns.in_turn }
+
+all_first : (P : ℕ → Type 0) (xs : List ℕ) (x : ℕ) → slice_get xs 0 ≡ Some x → AllByRecursion P xs → P x
+all_first P [] x is all = absurd (cc)
+all_first P (y ∷ ys) x is all = let same : y ≡ x = cc in subst P same all.0
+
+pub coming_to_server : (s : SegmentView) (id : ℕ) → IsSound s → slice_get s.to_server 0 ≡ Some id → IsComing s.config (world_at s.config s.flight s.tick) (goes_to_server s.config) id
+coming_to_server s id i next =
+    let w = world_at s.config s.flight s.tick in
+    let P = IsComing s.config w (goes_to_server s.config) in
+    let all = all_coming s.config w (goes_to_server s.config) (fates_of s.events) (timely_of s i) in
+    all_first P s.to_server id next (all-suffix P (served_at s.tick (entries_kept s.flight s.kept)) s.to_server (subst (λ (l : List ℕ). AllByRecursion P l) (sym i.turns.server) all))
+
+pub coming_to_client : (s : SegmentView) (id : ℕ) → IsSound s → slice_get s.to_client 0 ≡ Some id → IsComing s.config (world_at s.config s.flight s.tick) (goes_to_client s.config) id
+coming_to_client s id i next =
+    let w = world_at s.config s.flight s.tick in
+    let P = IsComing s.config w (goes_to_client s.config) in
+    let all = all_coming s.config w (goes_to_client s.config) (fates_of s.events) (timely_of s i) in
+    all_first P s.to_client id next (all-suffix P (got_at s.tick (entries_kept s.flight s.kept)) s.to_client (subst (λ (l : List ℕ). AllByRecursion P l) (sym i.turns.client) all))
+
+get-inside : {A : Type 0} (xs : List A) (i : ℕ) (x : A) → slice_get xs i ≡ Some x → i < length xs
+get-inside [] i x is = absurd (cc)
+get-inside (y ∷ ys) zero x is = omega arith
+get-inside (y ∷ ys) (suc i) x is = omega (arith, get-inside ys i x is)
+
+pub coming_inside : (s : SegmentView) (goes : Sender → Packet → Bool) (id : ℕ) → IsComing s.config (world_at s.config s.flight s.tick) goes id → id < length s.flight
+coming_inside s goes id come = omega (arith, get-inside (map flying_of s.flight) id come.f come.here.sent, length-map s.flight flying_of)
+
+get-some : {A : Type 0} (xs : List A) (i : ℕ) (d : A) → i < length xs → slice_get xs i ≡ Some (get_or xs i d)
+get-some [] i d lt = absurd (omega arith)
+get-some (x ∷ xs) zero d lt = refl
+get-some (x ∷ xs) (suc i) d lt = get-some xs i d (omega arith)
+
+pub found_in : {A : Type 0} (given xs : List A) (i : ℕ) (x : A) → given ≡ xs → i < length xs → x ≡ get_or given i x → slice_get xs i ≡ Some x
+found_in given xs i x same lt is = get-some xs i x lt ∙ ap (λ y. Some y) (ap (λ l. get_or l i x) (sym same) ∙ sym is)
+
+-- the replies don't look at the tick
+out-tick : (c : Config) (t u : ℕ) (packet : Packet) → out_of c t (start c).server packet ≡ out_of c u (start c).server packet
+out-tick c t u (Frame bytes) = refl
+out-tick c t u (Udp src dst body) = refl
+
+ids-take : (n m : ℕ) (kept : List Kept) → AllByRecursion (λ k. ids_end k.what ≤ m) kept → AllByRecursion (λ k. ids_end k.what ≤ m) (take n kept)
+ids-take zero m kept ids = tt
+ids-take (suc n) m [] ids = tt
+ids-take (suc n) m (k ∷ ks) ids = (ids.0, ids-take n m ks ids.1)
+
+-- what was drained stays what it was
+text-push : (s : SegmentView) (more : List Flown) (k : Kept) → IsSound s → record_text (entries_kept (s.flight ++ more) (take s.drained (s.kept ++ k ∷ []))) ≡ text_drained s
+text-push s more k i =
+    ap (λ (l : List Kept). record_text (entries_kept (s.flight ++ more) l)) (take-append-le s.drained s.kept (k ∷ []) i.drained)
+    ∙ ap record_text (kept-grow s.flight more (take s.drained s.kept) (ids-take s.drained (length s.flight) s.kept i.keeps.ids))
+
+drained-push : (n : ℕ) (kept : List Kept) (k : Kept) → n ≤ length kept → n ≤ length (kept ++ k ∷ [])
+drained-push n kept k le = omega (arith, length-append kept (k ∷ []))
+
+-- ---- the client sends
+
+abbrev pub flown_of : ℕ → Option ℕ → Packet → Flown
+flown_of tick fate packet = record { from = origin.Client; tick = tick; packet = packet; fate = fate }
+
+abbrev pub sent_next : SegmentView → Packet → Option ℕ → SegmentView
+sent_next s packet fate = record s { flight = s.flight ++ flown_of s.tick fate packet ∷ []; kept = s.kept ++ record { tick = s.tick; what = Sent (length s.flight) } ∷ [] }
+
+pub sound_sent : (s : SegmentView) (packet : Packet) (fate : Option ℕ) → IsSound s → s.to_server ≡ [] → length s.flight < last_tick → delays_of s.events.fates fate ≡ fate_in s.events.fates (length s.flight)
+    → IsSound (sent_next s packet fate)
+sound_sent s packet fate i ready room is =
+    let f = flown_of s.tick fate packet in
+    let here : 0 + length s.flight ≡ length s.flight = omega arith in
+    record {
+      keeps = keep_sent s.config s.flight s.kept s.tick packet fate i.keeps;
+      turns = turn_sent s.config (fates_of s.events) s.flight s.kept s.tick f packet s.to_server s.to_client i.keeps i.turns (timely_of s i) refl ready (ap (λ (o : Option Flown). Send (packet_or o)) (get-last s.flight f));
+      fated = fated-push s.events.fates 0 s.flight f i.fated (is ∙ ap (λ (n : ℕ). fate_in s.events.fates n) (sym here));
+      events = i.events;
+      life = i.life;
+      tick = i.tick;
+      ids = omega (arith, length-append s.flight (f ∷ []));
+      drained = drained-push s.drained s.kept _ i.drained;
+      calm = i.calm;
+    }
+
+pub passes_sent : (s : SegmentView) (packet : Packet) (fate : Option ℕ) → IsSound s → IsSound (sent_next s packet fate) → Passes s (sent_next s packet fate) (Send packet ∷ [])
+passes_sent s packet fate i j =
+    let f = flown_of s.tick fate packet in
+    record {
+      config = refl;
+      events = refl;
+      steps = kept-push s.flight (f ∷ []) s.kept s.tick (Sent (length s.flight)) i.keeps.ids ∙ ap (λ (o : Option Flown). steps_kept s.flight s.kept s.tick ++ Send (packet_or o) ∷ []) (get-last s.flight f);
+      drained = text-push s (f ∷ []) (record { tick = s.tick; what = Sent (length s.flight) }) i;
+      faults = refl;
+      broken = refl;
+      lawful = j.keeps.allowed;
+      bounded = bounded_of (sent_next s packet fate) j;
+      stood = ap (λ (w : World). w.tick) i.keeps.world;
+    }
+
+-- ---- the server is given a packet
+
+abbrev pub served_next : SegmentView → ℕ → Option ℕ → List Packet → SegmentView
+served_next s id fate packets = record s {
+  flight = s.flight ++ replied s.tick fate packets;
+  kept = s.kept ++ record { tick = s.tick; what = Served id (length s.flight) (length packets) } ∷ [];
+  to_server = drop 1 s.to_server;
+}
+
+replied-fresh : (tick : ℕ) (fate : Option ℕ) (packets : List Packet) → AllByRecursion (λ x. x.tick ≡ tick) (map flying_of (replied tick fate packets))
+replied-fresh tick fate [] = tt
+replied-fresh tick fate (p ∷ ps) = (refl, replied-fresh tick fate ps)
+
+pub sound_served : (s : SegmentView) (id : ℕ) (f : Flown) (fate : Option ℕ) (out : Option Packet) → IsSound s → slice_get s.to_server 0 ≡ Some id → slice_get s.flight id ≡ Some f
+    → packets_in out ≡ out_of s.config 0 (start s.config).server f.packet → length s.flight < last_tick → delays_of s.events.fates fate ≡ fate_in s.events.fates (length s.flight)
+    → IsSound (served_next s id fate (packets_in out))
+sound_served s id f fate out i next at is room fated =
+    let packets = packets_in out in
+    let more = replied s.tick fate packets in
+    record {
+      keeps = keep_served s.config s.flight s.kept s.tick id f fate packets i.keeps at (coming_to_server s id i next) (is ∙ out-tick s.config 0 s.tick f.packet);
+      turns = turn_served s.config (fates_of s.events) s.flight more s.kept s.tick id (length s.flight) (length packets) s.to_server s.to_client i.keeps i.turns (timely_of s i) (replied-fresh s.tick fate packets) next;
+      fated = fated_out out;
+      events = i.events;
+      life = i.life;
+      tick = i.tick;
+      ids = few_out out;
+      drained = drained-push s.drained s.kept _ i.drained;
+      calm = i.calm;
+    }
+  where
+    fated_out : (o : Option Packet) → AllFated s.events.fates 0 (s.flight ++ replied s.tick fate (packets_in o))
+    fated_out None = subst (λ (l : List Flown). AllFated s.events.fates 0 l) (sym (append-nil s.flight)) i.fated
+    fated_out (Some p) =
+        let here : 0 + length s.flight ≡ length s.flight = omega arith in
+        fated-push s.events.fates 0 s.flight (reply_of s.tick fate p) i.fated (fated ∙ ap (λ (n : ℕ). fate_in s.events.fates n) (sym here))
+
+    few_out : (o : Option Packet) → length (s.flight ++ replied s.tick fate (packets_in o)) ≤ last_tick
+    few_out None = omega (arith, i.ids, length-append s.flight [])
+    few_out (Some p) = omega (arith, room, length-append s.flight (reply_of s.tick fate p ∷ []))
+
+pub passes_served : (s : SegmentView) (id : ℕ) (fate : Option ℕ) (packets : List Packet) → IsSound s → IsSound (served_next s id fate packets) → Passes s (served_next s id fate packets) (Serve id ∷ [])
+passes_served s id fate packets i j =
+    let more = replied s.tick fate packets in
+    record {
+      config = refl;
+      events = refl;
+      steps = kept-push s.flight more s.kept s.tick (Served id (length s.flight) (length packets)) i.keeps.ids;
+      drained = text-push s more (record { tick = s.tick; what = Served id (length s.flight) (length packets) }) i;
+      faults = refl;
+      broken = refl;
+      lawful = j.keeps.allowed;
+      bounded = bounded_of (served_next s id fate packets) j;
+      stood = ap (λ (w : World). w.tick) i.keeps.world;
+    }
+
+-- ---- the client gets a packet
+
+abbrev pub got_next : SegmentView → ℕ → ℕ → SegmentView
+got_next s id handed = record s { kept = s.kept ++ record { tick = s.tick; what = Got id } ∷ []; to_client = drop 1 s.to_client; handed = handed }
+
+got_step : (flight : List Flown) (id : ℕ) (f : Flown) → slice_get flight id ≡ Some f → Get id (packet_or (slice_get (flight ++ []) id)) ≡ Get id f.packet
+got_step flight id f at = ap (λ (l : List Flown). Get id (packet_or (slice_get l id))) (append-nil flight) ∙ ap (λ (o : Option Flown). Get id (packet_or o)) at
+
+pub sound_got : (s : SegmentView) (id handed : ℕ) (f : Flown) → IsSound s → s.to_server ≡ [] → slice_get s.to_client 0 ≡ Some id → slice_get s.flight id ≡ Some f → IsSound (got_next s id handed)
+sound_got s id handed f i ready next at =
+    let come = coming_to_client s id i next in
+    record {
+      keeps = keep_got s.config s.flight s.kept s.tick id f i.keeps at (coming_inside s (goes_to_client s.config) id come) come;
+      turns = turn_got s.config (fates_of s.events) s.flight s.kept s.tick id f.packet s.to_server s.to_client i.keeps i.turns (timely_of s i) ready next (got_step s.flight id f at);
+      fated = i.fated;
+      events = i.events;
+      life = i.life;
+      tick = i.tick;
+      ids = i.ids;
+      drained = drained-push s.drained s.kept _ i.drained;
+      calm = i.calm;
+    }
+
+pub passes_got : (s : SegmentView) (id handed : ℕ) (f : Flown) → IsSound s → slice_get s.flight id ≡ Some f → IsSound (got_next s id handed) → Passes s (got_next s id handed) (Get id f.packet ∷ [])
+passes_got s id handed f i at j =
+    let entry : Kept = record { tick = s.tick; what = Got id } in
+    let none = append-nil s.flight in
+    record {
+      config = refl;
+      events = refl;
+      steps =
+          ap (λ (l : List Flown). steps_kept l (s.kept ++ entry ∷ []) s.tick) (sym none)
+          ∙ kept-push s.flight [] s.kept s.tick (Got id) i.keeps.ids
+          ∙ ap (λ (x : Step). steps_kept s.flight s.kept s.tick ++ x ∷ []) (got_step s.flight id f at);
+      drained = ap (λ (l : List Flown). record_text (entries_kept l (take s.drained (s.kept ++ entry ∷ [])))) (sym none) ∙ text-push s [] entry i;
+      faults = refl;
+      broken = refl;
+      lawful = j.keeps.allowed;
+      bounded = bounded_of (got_next s id handed) j;
+      stood = ap (λ (w : World). w.tick) i.keeps.world;
+    }
+
+-- ---- time goes on
+
+abbrev pub tick_next : SegmentView → List ℕ → List ℕ → SegmentView
+tick_next s to_server to_client = record s { tick = s.tick + 1; to_server = to_server; to_client = to_client }
+
+calm_before : (s : SegmentView) (t : ℕ) → s.tick < last_tick → (s.faults ≡ 0) ⊎ (s.tick ≡ last_tick) → (s.faults ≡ 0) ⊎ (t ≡ last_tick)
+calm_before s t early (inl none) = inl none
+calm_before s t early (inr late) = absurd (omega arith)
+
+pub sound_tick : (s : SegmentView) (to_server to_client : List ℕ) → IsSound s → s.tick < last_tick → s.to_server ≡ [] → s.to_client ≡ []
+    → to_server ≡ due_to_server s.config (fates_of s.events) (world_at s.config s.flight (s.tick + 1)) → to_client ≡ due_to_client s.config (fates_of s.events) (world_at s.config s.flight (s.tick + 1))
+    → IsSound (tick_next s to_server to_client)
+sound_tick s to_server to_client i early no_server no_client server_is client_is = record {
+  keeps = keep_tick s.config s.flight s.kept s.tick i.keeps;
+  turns = turn_tick s.config (fates_of s.events) s.flight s.kept s.tick s.to_server s.to_client to_server to_client i.keeps i.turns no_server no_client server_is client_is;
+  fated = i.fated;
+  events = i.events;
+  life = i.life;
+  tick = omega arith;
+  ids = i.ids;
+  drained = i.drained;
+  calm = calm_before s (s.tick + 1) early i.calm;
+}
+
+pub passes_tick : (s : SegmentView) (to_server to_client : List ℕ) → IsSound s → IsSound (tick_next s to_server to_client) → Passes s (tick_next s to_server to_client) (Tick ∷ [])
+passes_tick s to_server to_client i j = record {
+  config = refl;
+  events = refl;
+  steps = tick-push s.flight s.kept s.tick i.keeps.ticks;
+  drained = refl;
+  faults = refl;
+  broken = refl;
+  lawful = j.keeps.allowed;
+  bounded = bounded_of (tick_next s to_server to_client) j;
+  stood = ap (λ (w : World). w.tick) i.keeps.world;
+}
+
+-- ---- as a function's proof has it
+
+pub passes_at : (s old next new : SegmentView) (part : List Step) → s ≡ old → new ≡ next → IsSound new → (IsSound next → Passes s next part) → Passes old new part
+passes_at s old next new part was is j so =
+    subst (λ (v : SegmentView). Passes v new part) was (subst (λ (v : SegmentView). Passes s v part) (sym is) (so (subst IsSound is j)))
+
+pub fate_found : (given fates : List Fate) (id n : ℕ) (fate : Option ℕ) → given ≡ fates → id ≡ n → delays_of given fate ≡ fate_in given id → delays_of fates fate ≡ fate_in fates n
+fate_found given fates id n fate same here is =
+    subst (λ (l : List Fate). delays_of l fate ≡ fate_in l n) same (is ∙ ap (λ (m : ℕ). fate_in given m) here)
+
+pub sent_is : (s : SegmentView) (packet : Packet) (fate : Option ℕ) (flight : List Flown) (kept : List Kept) (id : ℕ)
+    → flight ≡ s.flight ++ flown_of s.tick fate packet ∷ [] → kept ≡ s.kept ++ record { tick = s.tick; what = Sent id } ∷ [] → id ≡ length s.flight
+    → record s { flight = flight; kept = kept } ≡ sent_next s packet fate
+sent_is s packet fate flight kept id f k here =
+    let k2 : kept ≡ s.kept ++ record { tick = s.tick; what = Sent (length s.flight) } ∷ [] = k ∙ ap (λ (n : ℕ). s.kept ++ record { tick = s.tick; what = Sent n } ∷ []) here in
+    λ i. record s { flight = f i; kept = k2 i }
+
+pub served_is : (s : SegmentView) (id : ℕ) (fate : Option ℕ) (packets : List Packet) (flight : List Flown) (kept : List Kept) (to_server : List ℕ) (first : ℕ)
+    → flight ≡ s.flight ++ replied s.tick fate packets → kept ≡ s.kept ++ record { tick = s.tick; what = Served id first (length packets) } ∷ [] → first ≡ length s.flight → to_server ≡ drop 1 s.to_server
+    → record s { flight = flight; kept = kept; to_server = to_server } ≡ served_next s id fate packets
+served_is s id fate packets flight kept to_server first f k here left =
+    let k2 : kept ≡ s.kept ++ record { tick = s.tick; what = Served id (length s.flight) (length packets) } ∷ [] =
+    k ∙ ap (λ (n : ℕ). s.kept ++ record { tick = s.tick; what = Served id n (length packets) } ∷ []) here in
+    λ i. record s { flight = f i; kept = k2 i; to_server = left i }
+
+pub got_is : (s : SegmentView) (id handed : ℕ) (kept : List Kept) (to_client : List ℕ) → kept ≡ s.kept ++ record { tick = s.tick; what = Got id } ∷ [] → to_client ≡ drop 1 s.to_client
+    → record s { kept = kept; to_client = to_client; handed = handed } ≡ got_next s id handed
+got_is s id handed kept to_client k left = λ i. record s { kept = k i; to_client = left i; handed = handed }

@@ -1,0 +1,5 @@
+pub mod Flight
+pub mod Kept
+pub mod Segment
+pub mod Inside
+pub mod Passing

@@ -1,0 +1,49 @@
+-- How a segment goes on.
+use Rattle.std.specs.Prelude.{◌≡◌, ◌⊎◌, ℕ, List, [], ◌∷◌, ◌++◌, Option, Some, None}
+use Rattle.sd_outside.specs.declared.packet.Packet.{Packet}
+use Rattle.sd_link.specs.Steps.{Step, Tick, Send, Serve, Get, IsLawfulSoFar, world_of}
+use Rattle.sd_link.specs.Parts.{sends_in, got_in}
+use Rattle.sd_link.specs.Link.{TicksBefore, IsBounded}
+use Rattle.sd_segment.specs.Segment.{SegmentView, history_of, text_drained}
+
+-- the segment went on by these steps, and drained nothing
+pub record Passes (old new : SegmentView) (part : List Step) : Type 0 where
+  pub config : new.config ≡ old.config
+  pub events : new.events ≡ old.events
+  pub steps : (history_of new).steps ≡ (history_of old).steps ++ part
+  pub drained : text_drained new ≡ text_drained old
+  pub faults : new.faults ≡ old.faults
+  pub broken : new.broken ≡ old.broken
+  -- each of its steps was one that may happen
+  pub lawful : IsLawfulSoFar (history_of new)
+  pub bounded : IsBounded (history_of new)
+  -- and it stood where its world did
+  pub stood : (world_of (history_of old)).tick ≡ old.tick
+
+-- packets come to the server, and nothing else happens
+abbrev pub AllServes : List Step → Type 0
+AllServes [] = Unit {0}
+AllServes (Serve id ∷ steps) = AllServes steps
+AllServes (Tick ∷ steps) = ⊥
+AllServes (Send packet ∷ steps) = ⊥
+AllServes (Get id packet ∷ steps) = ⊥
+
+-- one tick passed, and packets came to the server
+abbrev pub Advances : SegmentView → SegmentView → Type 0
+Advances old new = (served : List Step) × Passes old new (Tick ∷ served) × AllServes served
+
+-- a packet was handed out, or none waits
+abbrev pub HandsOut : SegmentView → SegmentView → Option Packet → Type 0
+HandsOut old new None = (new ≡ old) × (new.to_client ≡ [])
+HandsOut old new (Some packet) = (id : ℕ) × Passes old new (Get id packet ∷ [])
+
+-- the segment went on by these steps, or nothing happened
+abbrev pub WentOn : SegmentView → SegmentView → List Step → Type 0
+WentOn old new part = ((part ≡ []) × (new ≡ old)) ⊎ Passes old new part
+
+-- what a wait does until a packet is handed out: the client sends nothing and gets nothing, and no tick passes from `until` on
+pub record Waits (until : ℕ) (old new : SegmentView) (part : List Step) : Type 0 where
+  pub went : WentOn old new part
+  pub silent : sends_in part ≡ []
+  pub got : got_in part ≡ []
+  pub ticks : TicksBefore until old.config (world_of (history_of old)) part
