@@ -10,8 +10,8 @@ use Rattle.sd_link.specs.declared.events.Fate.{Fate}
 use Rattle.sd_link.specs.Events.{fates_of, fate_in}
 use Rattle.sd_link.specs.World.{World, Flying, Sender, start}
 use Rattle.sd_link.specs.Reply.{out_of}
-use Rattle.sd_link.specs.Steps.{Step, Tick, Send, Serve, Get, goes_to_server, goes_to_client, world_of}
-use Rattle.sd_link.specs.Lawful.{served_at, got_at, due_to_server, due_to_client, IsLawful}
+use Rattle.sd_link.specs.Steps.{Step, Tick, Send, Serve, Get, goes_to_server, goes_to_client, world_of, whole_record}
+use Rattle.sd_link.specs.Lawful.{served_at, got_at, due_to_server, due_to_client, IsFrontOf}
 use Rattle.sd_link.specs.Link.{last_tick, IsBounded}
 use Rattle.sd_link.specs.Text.{record_text}
 use Rattle.sd_segment.specs.declared.flown.Origin.TheVariants as origin
@@ -25,6 +25,7 @@ use Rattle.sd_segment.specs.Passing.{Passes}
 use Rattle.sd_segment.proofs.Fates.{IsTimely, timely, fated-push}
 use Rattle.sd_segment.proofs.Dues.{IsComing, all_coming, all-suffix}
 use Rattle.sd_segment.proofs.Keeping.{kept-push, kept-grow, tick-push, get-last, keep_sent, keep_served, keep_got, keep_tick}
+use Rattle.sd_segment.proofs.Printed.{all_lines}
 use Rattle.sd_segment.proofs.Turning.{turn_sent, turn_served, turn_got, turn_tick}
 
 -- ---- what a sound segment knows
@@ -38,8 +39,8 @@ bounded_of s i = record {
   ids = omega (arith, i.ids, ap (λ (w : World). length w.flight) i.keeps.world, length-map s.flight flying_of);
 }
 
-pub lawful_of : (s : SegmentView) → IsSound s → IsLawful s.config (fates_of s.events) (steps_kept s.flight s.kept s.tick)
-lawful_of s i = record { allowed = i.keeps.allowed; in_turn = i.turns.in_turn }
+pub drained_front : (s : SegmentView) → IsSound s → IsFrontOf (text_drained s) (record_text (whole_record (history_of s)))
+drained_front s i = (record_text (entries_kept s.flight (drop s.drained s.kept)), sym (all_lines s.flight s.kept s.drained) ∙ ap record_text (sym i.keeps.entries))
 
 all_first : (P : ℕ → Type 0) (xs : List ℕ) (x : ℕ) → slice_get xs 0 ≡ Some x → AllByRecursion P xs → P x
 all_first P [] x is all = absurd (cc)

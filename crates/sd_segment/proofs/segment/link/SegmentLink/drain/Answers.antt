@@ -6,7 +6,7 @@ use Rattle.sd_segment.specs.declared.flown.Kept.{Kept}
 use Rattle.sd_segment.specs.Kept.{entries_kept}
 use Rattle.sd_segment.specs.Segment.{SegmentView, text_drained}
 use Rattle.sd_segment.proofs.Printed.{all_lines}
-use Rattle.sd_segment.proofs.segment.SegmentLink.drain.Goals as goal
+use Rattle.sd_segment.proofs.segment.link.SegmentLink.drain.Goals as goal
 
 pub returns-clause-text : goal.returns-clause-text
 returns-clause-text c =

@@ -1,0 +1,110 @@
+//! A segment as the client's link.
+ghost use Rattle.std.specs.Prelude.{◌≡◌, ◌⊎◌, ◌≤◌, ◌<◌, IsTrue, OnOk, OnErr, IfErr, Some, None, Ok, Err};
+ghost use Rattle.sd_link.specs.Link.{Moves, Sends, Receives, LinkCause, Counts, last_tick, Drains, IsBounded};
+ghost use Rattle.sd_link.specs.Steps.{whole_record};
+ghost use Rattle.sd_link.specs.Text.{record_text};
+ghost use Rattle.sd_link.specs.declared.link.LinkError.TheVariants as refused;
+ghost use Rattle.sd_segment.specs.Segment.{history_of, text_drained};
+
+use crate::printing::lines_of;
+use crate::segment::Segment;
+use sd_link::{Link, LinkError};
+use sd_outside::{ByteList, NoMemory, Packet};
+
+impl Link for Segment {
+    ghost use Rattle.std.specs.Prelude.{Some};
+    ghost use Rattle.sd_segment.specs.Segment.{history_of, text_drained};
+
+    ghost told = { λ s. Some (history_of s) };
+
+    ghost clock = { λ s. s.tick };
+
+    ghost faults = { λ s. s.faults };
+
+    ghost handed = { λ s. s.handed };
+
+    ghost drained = { λ s. text_drained s };
+
+    fn now(&mut self) -> u64 {
+        self.tick()
+    }
+
+    /// Sends a packet. It never fails, and a refused call changes nothing.
+    fn send(&mut self, packet: &Packet) -> Result<(), LinkError>
+        ensures told { Moves (Some (history_of self.old)) (Some (history_of self.new)) (Sends packet.now result) }
+        ensures bounded { IsBounded (history_of self.new) }
+        ensures later { self.old.tick ≤ self.new.tick }
+        ensures cause { LinkCause self.old.faults self.new.faults result }
+        ensures handed { self.new.handed ≡ self.old.handed }
+        ensures drained { text_drained self.new ≡ text_drained self.old }
+
+        ensures why { IfErr result (λ why. why ≡ refused.NoMemory) }
+        ensures err { OnErr result (self.new ≡ self.old) }
+        ensures stopped { IsTrue self.old.broken → result ≡ Err refused.NoMemory }
+    {
+        if !self.is_ready() {
+            return Err(LinkError::NoMemory);
+        }
+        match packet.copy() {
+            Err(NoMemory) => Err(LinkError::NoMemory),
+            Ok(packet) => match self.put(packet) {
+                Err(NoMemory) => Err(LinkError::NoMemory),
+                Ok(()) => Ok(()),
+            },
+        }
+    }
+
+    /// Waits for a packet, until this tick at most.
+    fn recv(&mut self, until: u64) -> Result<Option<Packet>, LinkError>
+        ensures told { Moves (Some (history_of self.old)) (Some (history_of self.new)) (Receives until result) }
+        ensures bounded { IsBounded (history_of self.new) }
+        ensures later { self.old.tick ≤ self.new.tick }
+        ensures reached { result ≡ Ok None → until ≤ self.new.tick }
+        ensures cause { LinkCause self.old.faults self.new.faults result }
+        ensures handed { Counts self.old.handed self.new.handed result }
+        ensures drained { text_drained self.new ≡ text_drained self.old }
+
+        // It fails where it would need a tick past the last one, and counts no other fault.
+        ensures late { result ≡ Err refused.Failed → (self.new.tick ≡ last_tick) × (last_tick < until) }
+        ensures calm { (result ≡ Err refused.Failed) ⊎ (self.new.faults ≡ self.old.faults) }
+
+        // Once it found no memory, nothing is sent and nothing is received.
+        ensures stops { result ≡ Err refused.NoMemory → IsTrue self.new.broken }
+        ensures stopped { IsTrue self.old.broken → (result ≡ Err refused.NoMemory) × (history_of self.new ≡ history_of self.old) }
+    {
+        if !self.is_ready() {
+            self.stop();
+            return Err(LinkError::NoMemory);
+        }
+        match self.receive(until) {
+            Ok(packet) => Ok(packet),
+            Err(LinkError::Failed) => Err(LinkError::Failed),
+            Err(LinkError::NoMemory) => {
+                self.stop();
+                Err(LinkError::NoMemory)
+            }
+        }
+    }
+
+    /// Appends the lines of the record since the last drain. A refused call changes nothing.
+    fn drain(&mut self, text: &mut ByteList) -> Result<(), NoMemory>
+        ensures told { history_of self.new ≡ history_of self.old }
+        ensures text { OnOk result (Drains (text_drained self.old) (text_drained self.new) text.old text.new) }
+        ensures err { OnErr result (text_drained self.new ≡ text_drained self.old) }
+        ensures whole { OnOk result (text_drained self.new ≡ record_text (whole_record (history_of self.new))) }
+        ensures clock { self.new.tick ≡ self.old.tick }
+        ensures faults { self.new.faults ≡ self.old.faults }
+        ensures handed { self.new.handed ≡ self.old.handed }
+
+        ensures refused { OnErr result ((self.new ≡ self.old) × (text.new ≡ text.old)) }
+    {
+        let lines = lines_of(
+            self.alloc,
+            self.flight.as_slice(),
+            &self.kept.as_slice()[self.drained..],
+        )?;
+        text.push_slice(lines.as_slice())?;
+        self.drained = self.kept.as_slice().len();
+        Ok(())
+    }
+}

@@ -1,0 +1,114 @@
+//! Each single step of a segment.
+ghost use Rattle.std.specs.Prelude.{◌≡◌, ◌+◌, ◌-◌, ◌^◌, ◌<◌, [], ◌∷◌, drop, min, max, OnOk, OnErr, IfOk, Some, slice_get};
+ghost use Rattle.sd_link.specs.Link.{last_tick};
+ghost use Rattle.sd_link.specs.Steps.{Tick, Send, Serve, Get};
+ghost use Rattle.sd_segment.specs.Passing.{Passes};
+
+use crate::due::{Goal, due_ids, place_of};
+use crate::flown::{Flown, Kept, Origin, What};
+use crate::pushing::{next_id, push_both, push_served};
+use crate::reply::reply;
+use crate::segment::Segment;
+use sd_outside::{NoMemory, Packet};
+
+impl Segment {
+    pub(crate) fn next_to_server(&self) -> Option<usize>
+        ensures { result ≡ slice_get self.now.to_server 0 }
+    {
+        self.to_server.next()
+    }
+
+    pub(crate) fn next_to_client(&self) -> Option<usize>
+        ensures { result ≡ slice_get self.now.to_client 0 }
+    {
+        self.to_client.next()
+    }
+
+    /// A packet of the client goes into flight.
+    pub(crate) fn put(&mut self, packet: Packet) -> Result<(), NoMemory>
+        requires ready { self.old.to_server ≡ [] }
+        ensures ok { OnOk result (Passes self.old self.new (Send packet ∷ [])) }
+        ensures err { OnErr result (self.new ≡ self.old) }
+        ensures tick { self.new.tick ≡ self.old.tick }
+        ensures handed { self.new.handed ≡ self.old.handed }
+    {
+        let id = next_id(self.flight.as_slice())?;
+        let fate = place_of(self.events.fates.as_slice(), id);
+        let tick = self.tick;
+        let flown = Flown {
+            from: Origin::Client,
+            tick,
+            packet,
+            fate,
+        };
+        let what = What::Sent { id };
+        push_both(&mut self.flight, &mut self.kept, flown, Kept { tick, what })?;
+        Ok(())
+    }
+
+    /// The next packet that is due to the server comes to it.
+    pub(crate) fn serve(&mut self, id: usize) -> Result<(), NoMemory>
+        requires next { slice_get self.old.to_server 0 ≡ Some id }
+        ensures ok { OnOk result (Passes self.old self.new (Serve id ∷ [])) }
+        ensures left { OnOk result (self.new.to_server ≡ drop 1 self.old.to_server) }
+        ensures err { OnErr result (self.new ≡ self.old) }
+        ensures tick { self.new.tick ≡ self.old.tick }
+        ensures handed { self.new.handed ≡ self.old.handed }
+    {
+        let flight = self.flight.as_slice();
+        let out = reply(self.alloc, &self.config, &flight[id].packet)?;
+        let first = next_id(flight)?;
+        let fate = place_of(self.events.fates.as_slice(), first);
+        push_served(
+            &mut self.flight,
+            &mut self.kept,
+            self.tick,
+            id,
+            first,
+            fate,
+            out,
+        )?;
+        self.to_server.take_next();
+        Ok(())
+    }
+
+    /// The next packet that is due to the client comes to it.
+    pub(crate) fn get(&mut self, id: usize) -> Result<Packet, NoMemory>
+        requires ready { self.old.to_server ≡ [] }
+        requires next { slice_get self.old.to_client 0 ≡ Some id }
+        ensures ok { IfOk result (λ packet. Passes self.old self.new (Get id packet ∷ [])) }
+        ensures err { OnErr result (self.new ≡ self.old) }
+        ensures tick { self.new.tick ≡ self.old.tick }
+        ensures handed { OnOk result (self.new.handed ≡ max self.old.handed (min (self.old.handed + 1) (2 ^ 64 - 1))) }
+    {
+        let flight = self.flight.as_slice();
+        let packet = flight[id].packet.copy()?;
+        let tick = self.tick;
+        let what = What::Got { id };
+        self.kept.push(Kept { tick, what })?;
+        self.to_client.take_next();
+        self.handed = self.handed.saturating_add(1);
+        Ok(packet)
+    }
+
+    /// Time goes on by one tick, and what is due at it is found.
+    pub(crate) fn pass(&mut self) -> Result<(), NoMemory>
+        requires early { self.old.tick < last_tick }
+        requires served { self.old.to_server ≡ [] }
+        requires got { self.old.to_client ≡ [] }
+        ensures ok { OnOk result (Passes self.old self.new (Tick ∷ [])) }
+        ensures tick { OnOk result (self.new.tick ≡ self.old.tick + 1) }
+        ensures err { OnErr result (self.new ≡ self.old) }
+        ensures handed { self.new.handed ≡ self.old.handed }
+    {
+        let tick = self.tick + 1;
+        let fates = self.events.fates.as_slice();
+        let flight = self.flight.as_slice();
+        let to_server = due_ids(self.alloc, &self.config, Goal::Server, fates, flight, tick)?;
+        let to_client = due_ids(self.alloc, &self.config, Goal::Client, fates, flight, tick)?;
+        self.tick = tick;
+        self.to_server = to_server;
+        self.to_client = to_client;
+        Ok(())
+    }
+}
