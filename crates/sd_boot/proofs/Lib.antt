@@ -1,0 +1,5 @@
+pub mod Cutting
+pub mod Honest
+pub mod Composing
+pub mod Replaying
+pub mod Statuses

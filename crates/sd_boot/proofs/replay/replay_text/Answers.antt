@@ -1,0 +1,10 @@
+use Rattle.std.proofs.Common.{◌≡◌, List, Option, Result, Ok, Err, subst}
+use Rattle.sd_script.specs.declared.error.ScriptError.{ScriptError}
+use Rattle.sd_script.specs.Grammar.{IsScriptError}
+use Rattle.sd_boot.proofs.Replaying.{no_memory, refused, played_text}
+use Rattle.sd_boot.proofs.replay.replay_text.Goals as goal
+
+pub returns-in-Err-Line-clause-told : goal.returns-in-Err-Line-clause-told
+returns-in-Err-Line-clause-told g c =
+    refused c.args.text.now c.in-Err-Line.number (g.K.Sink.written c.args.sink.now) (g.K.Sink.written c.refuse.new.sink) c.refuse.result
+    (subst (λ (e : ScriptError). IsScriptError c.args.text.now e) c.in-Err-Line.field-0-is c.in-Err-Line.ensures.refused) c.refuse.ensures.ok c.refuse.ensures.err c.refuse.ensures.ended c.refuse.ensures.source

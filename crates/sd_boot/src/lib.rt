@@ -1,0 +1,20 @@
+//! The programs of the boot chain, as calls from words and input to output and status.
+//!
+//! `run` carries the headline for `replay`: what it writes is the transcript of a lawful run of the script that it read,
+//! its answers are those of the boot machine, and each is earned or caused by its part of the run. The adapters over
+//! standard input and output tell no bytes, and count their faults.
+#![tactic(auto)]
+
+mod input;
+mod output;
+mod play;
+mod programs;
+mod replay;
+mod status;
+mod streams;
+mod words;
+
+pub use programs::run;
+pub use status::Status;
+pub use streams::{StandardInput, StandardOutput};
+pub use words::Text;
