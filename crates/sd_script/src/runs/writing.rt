@@ -41,21 +41,22 @@ fn first_item(bytes: &[u8]) -> FirstItem
     FirstItem::Pairs(at)
 }
 
-/// The text of an item that stands for the first `count` bytes.
+/// The text of an item that repeats a byte.
 fn repeated_text(alloc: Global, byte: u8, count: usize) -> Result<ByteList, NoMemory>
     ensures { IfOk result (λ text. text ≡ item_text (repeated byte count)) }
 {
-    let mut text = ByteList::from_slice(alloc, hex::encode(alloc, [byte])?.as_bytes())?;
+    let mut text = ByteList::from_vec(hex::encode(alloc, [byte])?.into_bytes());
     text.push_slice(b"*")?;
     text.push_slice(count.to_string(alloc)?.as_bytes())?;
     Ok(text)
 }
 
-/// The text of the pairs of the bytes.
-fn pairs_text(alloc: Global, bytes: &[u8]) -> Result<ByteList, NoMemory>
-    ensures { IfOk result (λ text. text ≡ item_text (pairs bytes.now)) }
+/// Writes an item of pairs. A refused call changes nothing.
+fn write_pairs(alloc: Global, bytes: &[u8], text: &mut ByteList) -> Result<(), NoMemory>
+    ensures ok { OnOk result (text.new ≡ text.old ++ item_text (pairs bytes.now)) }
+    ensures err { OnErr result (text.new ≡ text.old) }
 {
-    ByteList::from_slice(alloc, hex::encode(alloc, bytes)?.as_bytes())
+    text.push_slice(hex::encode(alloc, bytes)?.as_bytes())
 }
 
 /// Writes the first item of some bytes, and gives the bytes after those for which it stands. A refused call
@@ -72,8 +73,7 @@ fn write_item<'a>(alloc: Global, bytes: &'a [u8], text: &mut ByteList) -> Result
             Ok(&bytes[count..])
         }
         FirstItem::Pairs(count) => {
-            let item = pairs_text(alloc, &bytes[..count])?;
-            text.push_slice(item.as_slice())?;
+            write_pairs(alloc, &bytes[..count], text)?;
             Ok(&bytes[count..])
         }
     }
