@@ -1,9 +1,14 @@
+//! Writing byte runs.
+
 ghost use Rattle.std.specs.Prelude.{◌≡◌, ◌<◌, ◌++◌, length, IfOk, OnOk, OnErr};
 ghost use Rattle.sd_link.specs.Runs.{pairs, repeated, item_text, runs_text};
 ghost use Rattle.sd_script.specs.Writing.{run_length, IsFirstItem, WritesItem, AppendsFront};
 
 use sd_outside::{ByteList, NoMemory};
 use std::alloc::Global;
+
+/// The least length of a run that is an item of its own.
+const LONG_RUN: usize = 4;
 
 /// What the first item of some bytes is, with how many bytes it stands for.
 #[derive(Clone, Copy, Debug)]
@@ -27,13 +32,13 @@ fn first_item(bytes: &[u8]) -> FirstItem
     ensures { IsFirstItem bytes.now result }
 {
     let run = front_run(bytes);
-    if run >= 4 {
+    if run >= LONG_RUN {
         return FirstItem::Repeated(run);
     }
     let mut at = run;
     while at < bytes.len() {
         let run = front_run(&bytes[at..]);
-        if run >= 4 {
+        if run >= LONG_RUN {
             break;
         }
         at += run;
