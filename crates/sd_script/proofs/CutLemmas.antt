@@ -11,7 +11,7 @@ found : (b : Bool) (n at : ℕ) → cond b (Some n) None ≡ Some at → (b ≡ 
 found true n at e = (refl, ap (λ (o : Option ℕ). unwrap_or o 0) e)
 found false n at e = cc e
 
-missing : (b : Bool) (n : ℕ) → cond b (Some n) None ≡ None → b ≡ false
+pub missing : (b : Bool) (n : ℕ) → cond b (Some n) None ≡ None → b ≡ false
 missing true n e = cc e
 missing false n e = refl
 

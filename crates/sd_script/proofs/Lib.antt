@@ -4,6 +4,7 @@ pub mod Exits
 pub mod NumberLemmas
 pub mod HexCase
 pub mod CutLemmas
+pub mod PlaceLemmas
 pub mod ItemLemmas
 pub mod JudgeLemmas
 pub mod ScriptLemmas

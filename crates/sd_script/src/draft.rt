@@ -1,4 +1,4 @@
-//! What the lines of a script say so far.
+//! What the lines of a script say so far, and the words with which they begin.
 
 use crate::fates::FateBook;
 use crate::script::CommandList;

@@ -1,4 +1,12 @@
-//! The texts of scripts, byte runs and packets.
+//! What people write and read: scripts, transcripts, packets and byte runs.
+//!
+//! A script is a heading of six lines, then lines that say what becomes of packets, then commands. `read_script` answers
+//! the script exactly where the grammar of `specs/Grammar.antt` relates one to the text, and else the number of the first
+//! line outside. A text has one script or one such line, never both, and a script that is read keeps the rules of
+//! `specs/Rules.antt`.
+//!
+//! A byte run text is read however its bytes are split into items, and written in one way alone; what is written is read
+//! again, packets too. Answer lines and record lines are written to the byte.
 #![tactic(auto)]
 
 mod answers;

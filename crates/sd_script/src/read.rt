@@ -92,7 +92,8 @@ fn is_whole(section: Section) -> bool
     )
 }
 
-/// The script of a text, or the first line outside the grammar.
+/// The script of a text, or the number of the first line outside the grammar. A text of more than 67,108,864 bytes is no
+/// script: the line with the first byte past them is refused, if none before it is.
 pub fn read_script(alloc: Global, text: &[u8]) -> Result<Script, ScriptError>
     ensures script { IfOk result (λ script. IsScript text.now script) }
     ensures rules { IfOk result KeepsRules }

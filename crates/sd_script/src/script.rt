@@ -1,3 +1,5 @@
+//! What a script says.
+
 ghost use Rattle.std.specs.Prelude.{◌≡◌, ◌<◌, ◌≤◌, ◌∷◌, ◌++◌, [], length, OnOk, OnErr};
 ghost use Rattle.sd_script.specs.Limits.{command_limit};
 
@@ -9,19 +11,24 @@ use std::marker::Model;
 /// What a command line asks for.
 #[derive(Clone, Copy, Debug, PartialEq, Eq)]
 pub enum Command {
+    /// The client asks for its address by RARP (RFC 903).
     Addr,
+    /// The client waits so many ticks, 1 to 100,000.
     Wait { ticks: u64 },
 }
 
 /// A script: what its configuration, event and command lines say.
 #[derive(Debug, Drop)]
 pub struct Script {
+    /// What the heading says.
     pub config: Config,
+    /// What becomes of packets.
     pub events: Events,
+    /// What the client is asked to do, in order.
     pub commands: CommandList,
 }
 
-/// A list of commands.
+/// Commands, seen as a list. There are at most 16,384.
 #[derive(Debug, Drop)]
 pub struct CommandList {
     commands: Vec<Command>,
@@ -40,6 +47,7 @@ impl Model for CommandList {
 }
 
 impl CommandList {
+    /// No commands.
     pub fn empty(alloc: Global) -> CommandList
         ensures { result ≡ [] }
     {

@@ -1,3 +1,5 @@
+//! Reading byte runs.
+
 ghost use Rattle.std.specs.Prelude.{◌≤◌, List, ℕ, length, IfOk, IsErrOf};
 ghost use Rattle.sd_script.specs.Reading.{Reads};
 ghost use Rattle.sd_script.specs.Limits.{input_limit};

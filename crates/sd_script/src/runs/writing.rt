@@ -1,9 +1,14 @@
+//! Writing byte runs.
+
 ghost use Rattle.std.specs.Prelude.{◌≡◌, ◌<◌, ◌++◌, length, IfOk, OnOk, OnErr};
 ghost use Rattle.sd_link.specs.Runs.{pairs, repeated, item_text, runs_text};
 ghost use Rattle.sd_script.specs.Writing.{run_length, IsFirstItem, WritesItem, AppendsFront};
 
 use sd_outside::{ByteList, NoMemory};
 use std::alloc::Global;
+
+/// The least length of a run that is an item of its own.
+const LONG_RUN: usize = 4;
 
 /// What the first item of some bytes is, with how many bytes it stands for.
 #[derive(Clone, Copy, Debug)]
@@ -27,13 +32,13 @@ fn first_item(bytes: &[u8]) -> FirstItem
     ensures { IsFirstItem bytes.now result }
 {
     let run = front_run(bytes);
-    if run >= 4 {
+    if run >= LONG_RUN {
         return FirstItem::Repeated(run);
     }
     let mut at = run;
     while at < bytes.len() {
         let run = front_run(&bytes[at..]);
-        if run >= 4 {
+        if run >= LONG_RUN {
             break;
         }
         at += run;
@@ -41,21 +46,22 @@ fn first_item(bytes: &[u8]) -> FirstItem
     FirstItem::Pairs(at)
 }
 
-/// The text of an item that stands for the first `count` bytes.
+/// The text of an item that repeats a byte.
 fn repeated_text(alloc: Global, byte: u8, count: usize) -> Result<ByteList, NoMemory>
     ensures { IfOk result (λ text. text ≡ item_text (repeated byte count)) }
 {
-    let mut text = ByteList::from_slice(alloc, hex::encode(alloc, [byte])?.as_bytes())?;
+    let mut text = ByteList::from_vec(hex::encode(alloc, [byte])?.into_bytes());
     text.push_slice(b"*")?;
     text.push_slice(count.to_string(alloc)?.as_bytes())?;
     Ok(text)
 }
 
-/// The text of the pairs of the bytes.
-fn pairs_text(alloc: Global, bytes: &[u8]) -> Result<ByteList, NoMemory>
-    ensures { IfOk result (λ text. text ≡ item_text (pairs bytes.now)) }
+/// Writes an item of pairs. A refused call changes nothing.
+fn write_pairs(alloc: Global, bytes: &[u8], text: &mut ByteList) -> Result<(), NoMemory>
+    ensures ok { OnOk result (text.new ≡ text.old ++ item_text (pairs bytes.now)) }
+    ensures err { OnErr result (text.new ≡ text.old) }
 {
-    ByteList::from_slice(alloc, hex::encode(alloc, bytes)?.as_bytes())
+    text.push_slice(hex::encode(alloc, bytes)?.as_bytes())
 }
 
 /// Writes the first item of some bytes, and gives the bytes after those for which it stands. A refused call
@@ -72,8 +78,7 @@ fn write_item<'a>(alloc: Global, bytes: &'a [u8], text: &mut ByteList) -> Result
             Ok(&bytes[count..])
         }
         FirstItem::Pairs(count) => {
-            let item = pairs_text(alloc, &bytes[..count])?;
-            text.push_slice(item.as_slice())?;
+            write_pairs(alloc, &bytes[..count], text)?;
             Ok(&bytes[count..])
         }
     }

@@ -1,0 +1,30 @@
+//! The boot chain of a diskless client, as programs over standard input and output.
+#![tactic(auto)]
+
+use sd_boot::{StandardInput, StandardOutput, Status, Text, run};
+use sd_outside::NoMemory;
+use std::io;
+use std::process::ExitCode;
+
+/// The words of the command line, without the program's name.
+fn words(rt: &HostRuntime) -> Result<Vec<Text>, NoMemory> {
+    let mut words = Vec::new(rt.alloc());
+    if let Ok(all) = std::env::args(rt) {
+        for word in all.skip(1) {
+            words.push(Text::new(rt.alloc(), word.as_str())?)?;
+        }
+    }
+    Ok(words)
+}
+
+fn main(rt: HostRuntime) -> ExitCode {
+    let status = match words(&rt) {
+        Ok(words) => {
+            let mut source = StandardInput::new(rt.reader());
+            let mut sink = StandardOutput::new(io::writer(&rt));
+            run(rt.alloc(), words.as_slice(), &mut source, &mut sink)
+        }
+        Err(NoMemory) => Status(5),
+    };
+    ExitCode::from(status.0)
+}
