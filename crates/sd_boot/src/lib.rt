@@ -18,3 +18,6 @@ pub use programs::run;
 pub use status::Status;
 pub use streams::{StandardInput, StandardOutput};
 pub use words::Text;
+
+#[cfg(test)]
+mod tests;
