@@ -1,6 +1,5 @@
 -- A frame that was written is read again.
-use Rattle.std.proofs.Common.{◌≡◌, ℕ, ◌^◌, ◌<◌, ◌≤◌, List, ◌++◌, length, replicate, Ok, refl, arith}
-use Rattle.std.proofs.lemmas.List.{length-append}
+use Rattle.std.proofs.Common.{◌≡◌, ℕ, ◌^◌, ◌<◌, List, ◌++◌, length, replicate, Ok, refl, arith}
 use Rattle.std.specs.Int.{w32, to_be_bytes}
 use Rattle.sd_outside.specs.declared.packet.Mac.{Mac}
 use Rattle.sd_rarp.specs.declared.frame.RarpFrame.TheVariants.{Request, Reply}

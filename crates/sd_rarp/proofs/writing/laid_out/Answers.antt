@@ -1,4 +1,4 @@
-use Rattle.std.proofs.Common.{◌++◌, [], ◌∷◌, refl, sym, subst, replicate}
+use Rattle.std.proofs.Common.{[], refl, sym, subst, replicate}
 use Rattle.std.specs.Int.{w32, to_be_bytes}
 use Rattle.sd_outside.specs.declared.packet.Mac.{Mac}
 use Rattle.sd_rarp.specs.Frame.{fixed_part, IsLaidOut}
