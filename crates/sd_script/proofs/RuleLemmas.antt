@@ -1,16 +1,14 @@
 -- Lines in the grammar make a script that keeps the rules.
-use Rattle.std.proofs.Common.{◌≡◌, ℕ, ◌-◌, ◌<◌, ◌≤◌, ◌^◌, List, [], ◌∷◌, ◌++◌, length, refl, sym, ap, subst, inl, inr, arith, length-append}
+use Rattle.std.proofs.Common.{◌≡◌, ℕ, ◌-◌, ◌<◌, ◌≤◌, List, [], ◌∷◌, length, refl, sym, ap, subst, inl, inr, arith, length-append}
 use Rattle.std.specs.List.{All, AllZip}
 use Rattle.std.proofs.lemmas.List.Elements.{All-nil, All-cons, All-append}
-use Rattle.sd_outside.specs.declared.packet.Mac.{Mac}
-use Rattle.sd_outside.specs.Bytes as bytes
 use Rattle.sd_link.specs.declared.config.Config.{Config}
 use Rattle.sd_link.specs.declared.config.Machine.{Machine}
 use Rattle.sd_link.specs.declared.events.Fate.{Fate}
 use Rattle.sd_link.specs.Texts.{Text}
 use Rattle.sd_link.specs.Config as rules
 use Rattle.sd_link.specs.Config.{IsConfig, IsWithin}
-use Rattle.sd_link.specs.Events.{IsFate, IsEvents}
+use Rattle.sd_link.specs.Events.{IsFate}
 use Rattle.sd_script.specs.declared.script.Command.{Command}
 use Rattle.sd_script.specs.declared.script.Command.TheVariants as commands
 use Rattle.sd_script.specs.declared.script.Script.{Script}
@@ -20,9 +18,9 @@ use Rattle.sd_script.specs.declared.draft.Draft.{Draft}
 use Rattle.sd_script.specs.declared.draft.Word.{Word}
 use Rattle.sd_script.specs.declared.draft.Word.TheVariants as words
 use Rattle.sd_script.specs.Limits.{command_limit}
-use Rattle.sd_script.specs.Texts.{IsNumber, IsMac}
-use Rattle.sd_script.specs.Lines.{IsMachine, Differ, LifeLine, TriesLine, WaitLine, PagesLine, ServerLine, ClientLine, MayBeEvent, MayBeCommand, IsDelays, FateLine, AddsCommand, AddrLine, WaitCommandLine, with_config, with_fate, with_command}
-use Rattle.sd_script.specs.Grammar.{WordLine, IsLine, Leads, without_feed, blank, script_of, IsWhole, IsScript}
+use Rattle.sd_script.specs.Texts.{IsNumber}
+use Rattle.sd_script.specs.Lines.{IsMachine, LifeLine, TriesLine, WaitLine, PagesLine, ServerLine, ClientLine, MayBeEvent, MayBeCommand, IsDelays, FateLine, AddsCommand, with_config, with_fate, with_command}
+use Rattle.sd_script.specs.Grammar.{WordLine, IsLine, Leads, without_feed, blank, script_of, IsScript}
 use Rattle.sd_script.specs.Rules.{IsCommand, KeepsRules}
 
 -- how many lines of the heading stand before a section

@@ -1,4 +1,4 @@
-use Rattle.std.proofs.Common.{◌≡◌, ◌∷◌, ◌++◌, [], ◌∙◌, ap, refl}
+use Rattle.std.proofs.Common.{◌≡◌, ◌∷◌, ◌++◌, [], ◌∙◌, refl}
 use Rattle.std.proofs.lemmas.Result.{on_err_weaker}
 use Rattle.sd_link.specs.Text.{packet_text, entry_text}
 use Rattle.sd_link.specs.Steps as steps
