@@ -14,3 +14,6 @@ mod reply;
 mod segment;
 
 pub use segment::Segment;
+
+#[cfg(test)]
+mod tests;
