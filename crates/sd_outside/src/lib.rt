@@ -16,6 +16,8 @@ mod mem_source;
 mod packet;
 mod planned;
 mod streams;
+#[cfg(test)]
+mod tests;
 
 pub use bytes::ByteList;
 pub use calm::{CalmSink, CalmSource};
