@@ -6,6 +6,7 @@
 #![tactic(auto)]
 
 mod due;
+mod ends;
 mod flown;
 mod printing;
 mod pushing;
