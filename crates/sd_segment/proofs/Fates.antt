@@ -1,12 +1,11 @@
 -- The fates of packets, by their ids.
-use Rattle.std.proofs.Common.{◌≡◌, ℕ, zero, suc, ◌+◌, ◌-◌, ◌<◌, ◌≤◌, Bool, true, false, cond, List, [], ◌∷◌, ◌++◌, length, get_or, drop, ◌==◌, Option, Some, refl, sym, ◌∙◌, ap, subst, arith, eq-eqb}
-use Rattle.std.specs.Prelude.{slice_get, slice_index_or}
+use Rattle.std.proofs.Common.{◌≡◌, ℕ, zero, suc, ◌+◌, ◌-◌, ◌<◌, ◌≤◌, Bool, true, false, cond, List, [], ◌∷◌, ◌++◌, length, get_or, drop, ◌==◌, Some, sym, ◌∙◌, ap, arith, eq-eqb}
 use Rattle.std.specs.List.{All, AllByRecursion}
 use Rattle.sd_link.specs.declared.events.Fate.{Fate}
 use Rattle.sd_link.specs.Config.{IsWithin}
 use Rattle.sd_link.specs.Events.{Fates, fate_in, IsFate}
 use Rattle.sd_segment.specs.declared.flown.Flown.{Flown}
-use Rattle.sd_segment.specs.Flight.{delays_of, delays_or, AllFated}
+use Rattle.sd_segment.specs.Flight.{delays_of, AllFated}
 
 -- ---- the first fate with an id
 

@@ -1,13 +1,13 @@
 -- One more thing that a segment keeps.
-use Rattle.std.proofs.Common.{◌≡◌, ℕ, zero, suc, ◌+◌, ◌-◌, ◌<◌, ◌≤◌, Bool, true, false, cond, List, [], ◌∷◌, ◌++◌, length, take, drop, map, replicate, Option, Some, None, refl, sym, ◌∙◌, ap, subst, arith, append_assoc, length-append, add-one}
-use Rattle.std.specs.Prelude.{slice_get, IsTrue}
+use Rattle.std.proofs.Common.{◌≡◌, ℕ, zero, suc, ◌+◌, ◌-◌, ◌<◌, ◌≤◌, List, [], ◌∷◌, ◌++◌, length, take, drop, map, replicate, Option, Some, refl, sym, ◌∙◌, ap, subst, arith, append_assoc, length-append}
+use Rattle.std.specs.Prelude.{slice_get}
 use Rattle.std.specs.Option.{option_map}
-use Rattle.std.specs.List.{flat_map, AllByRecursion}
+use Rattle.std.specs.List.{AllByRecursion}
 use Rattle.std.proofs.lemmas.Grind.{flat_map-append}
 use Rattle.std.proofs.lemmas.List.{append-nil, drop_at, take_all, map-append, length-map}
 use Rattle.sd_outside.specs.declared.packet.Packet.{Packet}
 use Rattle.sd_link.specs.declared.config.Config.{Config}
-use Rattle.sd_link.specs.World.{World, Flying, Sender, Client, Server, start, sent_by}
+use Rattle.sd_link.specs.World.{Flying, Server, start}
 use Rattle.sd_link.specs.Reply.{out_of}
 use Rattle.sd_link.specs.Steps.{Step, Tick, Send, Serve, Get, Entry, run, after, served, sent_from, replies_to, entries_of, record_of, AllAllowed, Allowed, IsDeliverable, goes_to_server, goes_to_client}
 use Rattle.sd_link.proofs.Histories.{run-append, allowed-append, record-append}
@@ -16,7 +16,7 @@ use Rattle.sd_segment.specs.declared.flown.Flown.{Flown}
 use Rattle.sd_segment.specs.declared.flown.Kept.{Kept}
 use Rattle.sd_segment.specs.declared.flown.What.{What}
 use Rattle.sd_segment.specs.declared.flown.What.TheVariants.{Sent, Served, Got}
-use Rattle.sd_segment.specs.Flight.{sender_of, flying_of, packet_or, reply_of, replied}
+use Rattle.sd_segment.specs.Flight.{flying_of, packet_or, reply_of, replied}
 use Rattle.sd_segment.specs.Kept.{step_of, steps_from, steps_kept, last_kept, sent_entries, entries_of_kept, entries_kept, ids_end}
 use Rattle.sd_segment.specs.Segment.{Keeps, world_at}
 use Rattle.sd_segment.proofs.Dues.{IsComing}

@@ -1,5 +1,5 @@
 -- Each step comes in its turn.
-use Rattle.std.proofs.Common.{◌≡◌, ℕ, zero, suc, ◌+◌, ◌<◌, ◌≤◌, Bool, true, false, cond, List, [], ◌∷◌, ◌++◌, length, drop, take, map, ◌==◌, Option, Some, None, refl, sym, ◌∙◌, ap, subst, arith, append_assoc, eq-eqb}
+use Rattle.std.proofs.Common.{◌≡◌, ℕ, ◌+◌, ◌<◌, ◌≤◌, Bool, true, false, cond, List, [], ◌∷◌, ◌++◌, length, drop, take, map, ◌==◌, Some, refl, sym, ◌∙◌, ap, subst, arith, append_assoc, eq-eqb}
 use Rattle.std.specs.Prelude.{slice_get}
 use Rattle.std.specs.List.{AllByRecursion}
 use Rattle.std.proofs.lemmas.Grind.{flat_map-append}
@@ -20,7 +20,7 @@ use Rattle.sd_segment.specs.Flight.{flying_of}
 use Rattle.sd_segment.specs.Kept.{step_of, steps_kept, sent_entries, entries_of_kept, entries_kept, ids_end}
 use Rattle.sd_segment.specs.Segment.{Keeps, Turns, world_at}
 use Rattle.sd_segment.proofs.Fates.{IsTimely}
-use Rattle.sd_segment.proofs.Dues.{due_from, due-append, due_fresh}
+use Rattle.sd_segment.proofs.Dues.{due-append, due_fresh}
 use Rattle.sd_segment.proofs.Keeping.{kept-push, kept-grow, tick-push, all-push}
 
 -- ---- what came at a tick

@@ -10,8 +10,8 @@ use Rattle.sd_link.specs.Steps.{goes_to_server, goes_to_client}
 use Rattle.sd_segment.specs.declared.flown.Origin.{Origin}
 use Rattle.sd_segment.specs.declared.flown.Origin.TheVariants as origin
 use Rattle.sd_segment.specs.declared.flown.Flown.{Flown}
-use Rattle.sd_segment.specs.declared.due.Goal.{Goal}
-use Rattle.sd_segment.specs.declared.due.Goal.TheVariants as goal
+use Rattle.sd_segment.specs.declared.ends.End.{End}
+use Rattle.sd_segment.specs.declared.ends.End.TheVariants as ends
 
 abbrev pub sender_of : Origin → Sender
 sender_of origin.Client = Client
@@ -36,9 +36,9 @@ packets_in None = []
 packets_in (Some packet) = packet ∷ []
 
 -- which packets go to this end
-abbrev pub goes_to : Goal → Config → Sender → Packet → Bool
-goes_to goal.Server = goes_to_server
-goes_to goal.Client = goes_to_client
+abbrev pub goes_to : End → Config → Sender → Packet → Bool
+goes_to ends.Server = goes_to_server
+goes_to ends.Client = goes_to_client
 
 abbrev pub delays_or : Option Fate → List ℕ
 delays_or None = []

@@ -6,6 +6,7 @@
 #![tactic(auto)]
 
 mod due;
+mod ends;
 mod flown;
 mod printing;
 mod pushing;
@@ -14,3 +15,6 @@ mod reply;
 mod segment;
 
 pub use segment::Segment;
+
+#[cfg(test)]
+mod tests;

@@ -1,5 +1,5 @@
 //! What goes into flight and what happened are kept together, or neither.
-ghost use Rattle.std.specs.Prelude.{◌≡◌, ◌<◌, [], ◌∷◌, ◌++◌, length, IfOk, OnOk, OnErr};
+ghost use Rattle.std.specs.Prelude.{◌≡◌, ◌<◌, ◌≤◌, [], ◌∷◌, ◌++◌, length, IfOk, OnOk, OnErr};
 ghost use Rattle.sd_link.specs.Link.{last_tick};
 ghost use Rattle.sd_segment.specs.Flight.{replied, packets_in};
 ghost use Rattle.sd_segment.specs.declared.flown.What.TheVariants as what;
@@ -13,6 +13,7 @@ const LAST_ID: usize = 1 << 62;
 pub fn next_id(flight: &[Flown]) -> Result<usize, NoMemory>
     ensures next { IfOk result (λ id. id ≡ length flight.now) }
     ensures room { OnOk result (length flight.now < last_tick) }
+    ensures full { OnErr result (last_tick ≤ length flight.now) }
 {
     let id = flight.len();
     if id < LAST_ID { Ok(id) } else { Err(NoMemory) }

@@ -4,7 +4,8 @@ ghost use Rattle.sd_link.specs.Link.{last_tick};
 ghost use Rattle.sd_link.specs.Steps.{Tick, Send, Serve, Get};
 ghost use Rattle.sd_segment.specs.Passing.{Passes};
 
-use crate::due::{Goal, due_ids, place_of};
+use crate::due::{due_ids, place_of};
+use crate::ends::End;
 use crate::flown::{Flown, Kept, Origin, What};
 use crate::pushing::{next_id, push_both, push_served};
 use crate::reply::reply;
@@ -104,8 +105,8 @@ impl Segment {
         let tick = self.tick + 1;
         let fates = self.events.fates.as_slice();
         let flight = self.flight.as_slice();
-        let to_server = due_ids(self.alloc, &self.config, Goal::Server, fates, flight, tick)?;
-        let to_client = due_ids(self.alloc, &self.config, Goal::Client, fates, flight, tick)?;
+        let to_server = due_ids(self.alloc, &self.config, End::Server, fates, flight, tick)?;
+        let to_client = due_ids(self.alloc, &self.config, End::Client, fates, flight, tick)?;
         self.tick = tick;
         self.to_server = to_server;
         self.to_client = to_client;

@@ -4,5 +4,5 @@ use Rattle.sd_segment.proofs.due.due_ids.Goals as goal
 
 pub loop-id-preserved : goal.loop-id-preserved
 loop-id-preserved c =
-    due_more (goes_to c.args.goal c.args.config.now) c.args.fates.now c.args.flight.now c.args.tick c.loop-id.id c.index-flight-id.result c.loop-id.ids c.add_packet.new.ids
+    due_more (goes_to c.args.end c.args.config.now) c.args.fates.now c.args.flight.now c.args.tick c.loop-id.id c.index-flight-id.result c.loop-id.ids c.add_packet.new.ids
     c.loop-id-test.true c.index-flight-id.is c.requires.fated c.loop-id.invariant c.in_ok-add_packet.ensures

@@ -1,4 +1,4 @@
-use Rattle.std.proofs.Common.{◌≡◌, ℕ, ◌+◌, ◌<◌, ◌^◌, length, arith}
+use Rattle.std.proofs.Common.{◌+◌, ◌<◌, ◌^◌, length, arith}
 use Rattle.sd_segment.proofs.Printed.{sent_more}
 use Rattle.sd_segment.proofs.printing.write_all_sent.Goals as goal
 

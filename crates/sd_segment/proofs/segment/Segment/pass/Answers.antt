@@ -1,15 +1,13 @@
-use Rattle.std.proofs.Common.{◌≡◌, ℕ, ◌+◌, ◌<◌, [], ◌∷◌, List, map, ◌∙◌, sym, ap, subst}
-use Rattle.sd_link.specs.declared.events.Fate.{Fate}
+use Rattle.std.proofs.Common.{◌≡◌, ◌+◌, ◌<◌, [], ◌∷◌, map, ◌∙◌, sym, subst}
 use Rattle.sd_link.specs.Events.{fate_in, fates_of}
 use Rattle.sd_link.specs.Lawful.{due, due_to_server, due_to_client}
 use Rattle.sd_link.specs.Link.{last_tick}
-use Rattle.sd_link.specs.Steps.{Step, Tick, goes_to_server, goes_to_client}
-use Rattle.sd_segment.specs.declared.flown.Flown.{Flown}
+use Rattle.sd_link.specs.Steps.{Tick, goes_to_server, goes_to_client}
 use Rattle.sd_segment.specs.Flight.{flying_of}
 use Rattle.sd_segment.specs.Inside.{view_of}
-use Rattle.sd_segment.specs.Segment.{SegmentView, IsSound, world_at}
+use Rattle.sd_segment.specs.Segment.{SegmentView, world_at}
 use Rattle.sd_segment.specs.Passing.{Passes}
-use Rattle.sd_segment.proofs.Passing.{tick_next, sound_tick, passes_tick, passes_at}
+use Rattle.sd_segment.proofs.Passing.{tick_next, sound_tick, passes_tick}
 use Rattle.sd_segment.proofs.segment.Segment.pass.Goals as goal
 
 pub invariant_of-self : goal.invariant_of-self

@@ -1,12 +1,11 @@
-use Rattle.std.proofs.Common.{◌≡◌, ℕ, ◌<◌, [], ◌∷◌, ◌++◌, List, length, ◌∙◌, sym, ap, subst}
+use Rattle.std.proofs.Common.{◌≡◌, ℕ, ◌<◌, [], ◌∷◌, List, length, ◌∙◌, sym, ap, subst}
 use Rattle.sd_link.specs.Events.{fate_in}
 use Rattle.sd_link.specs.Link.{last_tick}
-use Rattle.sd_link.specs.Steps.{Step, Send}
+use Rattle.sd_link.specs.Steps.{Send}
 use Rattle.sd_segment.specs.declared.flown.Flown.{Flown}
 use Rattle.sd_segment.specs.Flight.{delays_of}
 use Rattle.sd_segment.specs.Inside.{view_of}
 use Rattle.sd_segment.specs.Segment.{SegmentView, IsSound}
-use Rattle.sd_segment.specs.Passing.{Passes}
 use Rattle.sd_segment.proofs.Passing.{sent_next, sent_is, sound_sent, passes_sent, passes_at, fate_found}
 use Rattle.sd_segment.proofs.segment.Segment.put.Goals as goal
 

@@ -1,4 +1,4 @@
-use Rattle.std.proofs.Common.{◌≡◌, ◌∙◌}
+use Rattle.std.proofs.Common.{◌∙◌}
 use Rattle.sd_segment.proofs.Waiting.{serves_more, none_left}
 use Rattle.sd_segment.proofs.segment.Segment.serve_all.Goals as goal
 

@@ -1,4 +1,4 @@
-use Rattle.std.proofs.Common.{◌≡◌, List, length}
+use Rattle.std.proofs.Common.{◌≡◌, length}
 use Rattle.sd_segment.proofs.Waiting.{Serves}
 use Rattle.sd_segment.proofs.segment.Segment.serve_all.Given as goal
 

@@ -1,10 +1,10 @@
-use Rattle.std.proofs.Common.{◌≡◌, ℕ, ◌+◌, ◌-◌, ◌≤◌, List, [], ◌∷◌, ◌++◌, length, take, drop, refl, sym, ◌∙◌, ap, subst, arith}
+use Rattle.std.proofs.Common.{◌≡◌, ℕ, ◌-◌, List, ◌++◌, length, take, drop, sym, ◌∙◌, ap, arith}
 use Rattle.std.proofs.lemmas.List.{take_all, take_rest}
 use Rattle.sd_link.specs.Text.{record_text}
 use Rattle.sd_segment.specs.declared.flown.Flown.{Flown}
 use Rattle.sd_segment.specs.declared.flown.Kept.{Kept}
 use Rattle.sd_segment.specs.Kept.{entries_kept}
-use Rattle.sd_segment.specs.Segment.{SegmentView, text_drained}
+use Rattle.sd_segment.specs.Segment.{text_drained}
 use Rattle.sd_segment.proofs.Printed.{all_lines}
 use Rattle.sd_segment.proofs.segment.link.SegmentLink.drain.Goals as goal
 

@@ -1,0 +1,123 @@
+//! The segment under a small client, which follows schedules.
+
+mod schedules;
+
+use crate::Segment;
+use schedules::SCHEDULES;
+use sd_link::{Link, LinkError};
+use sd_outside::{ByteList, NoMemory};
+use sd_script::{read_packet_line, read_script};
+use std::alloc::Global;
+use std::test::Fail;
+
+const HEAD: &[u8] =
+    b"\ntries 4\nwait 5\npages 1\nserver 080020000001 192.168.1.1 boss\nclient 080020010203 192.168.1.2 sparky example 192.168.1.1\n";
+
+const REQUEST: &[u8] =
+    b"frame ff*6.08002001020380350001080006040003080020010203.00*4.080020010203.00*22";
+
+const REPLY: &[u8] =
+    b"frame 08002001020308002000000180350001080006040004080020000001c0a80101080020010203c0a80102.00*18";
+
+const OTHER: &[u8] = b"frame 080020000001080020010203";
+
+const TO_SERVER: &[u8] = b"udp 192.168.1.2:1021 192.168.1.1:111 01";
+
+const TO_ALL: &[u8] = b"udp 192.168.1.2:1021 255.255.255.255:111 02";
+
+const ASTRAY: &[u8] = b"udp 192.168.1.2:1021 192.168.1.77:111 -";
+
+fn send(alloc: Global, segment: &mut Segment, line: &[u8]) -> Result<(), LinkError> {
+    match read_packet_line(alloc, line) {
+        Ok(packet) => segment.send(&packet),
+        Err(_) => Err(LinkError::Failed),
+    }
+}
+
+/// Receives at most this many packets within so many ticks.
+fn receive(segment: &mut Segment, ticks: u64, most: u64) -> Result<(), LinkError> {
+    let until = segment.now().saturating_add(ticks);
+    for _ in 0..most {
+        if segment.recv(until)?.is_none() {
+            return Ok(());
+        }
+    }
+    Ok(())
+}
+
+fn number(digits: &[u8]) -> u64 {
+    let mut number: u64 = 0;
+    for digit in digits {
+        let value = digit.saturating_sub(b'0') as u64;
+        number = number.saturating_mul(10).saturating_add(value);
+    }
+    number
+}
+
+fn perform(alloc: Global, segment: &mut Segment, act: &[u8]) -> Result<(), LinkError> {
+    let Some((kind, digits)) = act.split_first() else {
+        return Err(LinkError::Failed);
+    };
+    match *kind {
+        b's' => send(alloc, segment, REQUEST),
+        b'n' => send(alloc, segment, OTHER),
+        b'd' => send(alloc, segment, TO_SERVER),
+        b'b' => send(alloc, segment, TO_ALL),
+        b'a' => send(alloc, segment, ASTRAY),
+        b't' => receive(segment, number(digits), 1),
+        b'w' => receive(segment, number(digits), 100),
+        _ => Err(LinkError::Failed),
+    }
+}
+
+fn text_of(alloc: Global, life: &[u8], events: &[u8]) -> Result<ByteList, NoMemory> {
+    let mut text = ByteList::from_slice(alloc, b"life ")?;
+    text.push_slice(life)?;
+    text.push_slice(HEAD)?;
+    text.push_slice(events)?;
+    Ok(text)
+}
+
+/// The record after these acts, drained after each. `None` where something was refused.
+fn record_of(alloc: Global, life: &[u8], events: &[u8], acts: &[u8]) -> Option<ByteList> {
+    let text = text_of(alloc, life, events).ok()?;
+    let script = read_script(alloc, text.as_slice()).ok()?;
+    let mut segment = Segment::new(alloc, script.config, script.events);
+    let mut record = ByteList::empty(alloc);
+    for act in acts.split(|byte| *byte == b' ') {
+        perform(alloc, &mut segment, act).ok()?;
+        segment.drain(&mut record).ok()?;
+    }
+    segment.facts();
+    Some(record)
+}
+
+/// A record without the abbreviations of the table.
+fn whole(alloc: Global, record: &[u8]) -> Result<ByteList, NoMemory> {
+    let mut text = ByteList::empty(alloc);
+    for byte in record {
+        match *byte {
+            b';' => text.push_slice(b"\n")?,
+            b'Q' => text.push_slice(REQUEST)?,
+            b'R' => text.push_slice(REPLY)?,
+            b'N' => text.push_slice(OTHER)?,
+            b'D' => text.push_slice(TO_SERVER)?,
+            b'B' => text.push_slice(TO_ALL)?,
+            b'A' => text.push_slice(ASTRAY)?,
+            other => text.push_slice(&[other])?,
+        }
+    }
+    Ok(text)
+}
+
+#[test]
+fn follows_schedules(rt: HostRuntime) -> Result<(), Fail> {
+    for (place, (life, events, acts, record)) in SCHEDULES.iter().enumerate() {
+        let want = whole(rt.alloc(), record)?;
+        match record_of(rt.alloc(), life, events, acts) {
+            Some(got) => assert_eq!(rt; got.as_slice(), want.as_slice(), "row {place}"),
+            None => assert!(rt; false, "refused: row {place}"),
+        }
+    }
+    Ok(())
+}
