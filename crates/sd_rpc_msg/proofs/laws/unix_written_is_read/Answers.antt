@@ -1,0 +1,5 @@
+use Rattle.sd_rpc_msg.proofs.ToldUnix.{written_is_read_again}
+use Rattle.sd_rpc_msg.proofs.laws.unix_written_is_read.Goals as goal
+
+pub returns : goal.returns
+returns c = written_is_read_again
