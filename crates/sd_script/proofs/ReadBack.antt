@@ -163,7 +163,7 @@ runs_again (b ∷ bytes) small short =
     rw some.is (cut_joined 46 (item_text some.first) (map item_text some.more) (rw some.is at lack)) in
     inr (rw apart (subst (IsItems (map item_text items)) (normal_bytes all) (items_stand items are)))
 
-join_lacks : (c separator : ℕ) (texts : List Text) → eqb separator c ≡ false → AllByRecursion (Lacks c) texts → Lacks c (join_with_byte separator texts)
+pub join_lacks : (c separator : ℕ) (texts : List Text) → eqb separator c ≡ false → AllByRecursion (Lacks c) texts → Lacks c (join_with_byte separator texts)
 join_lacks c separator [] other h = All-nil (λ x. eqb x c ≡ false)
 join_lacks c separator (x ∷ []) other h = h.0
 join_lacks c separator (x ∷ y ∷ texts) other h =
@@ -208,7 +208,7 @@ addr_again a f = record {
 
 -- Packets.
 
-word_lacks : (text : Text) → list_all (λ b. not (eqb b 32)) text ≡ true → Lacks 32 text
+pub word_lacks : (text : Text) → list_all (λ b. not (eqb b 32)) text ≡ true → Lacks 32 text
 word_lacks [] h = All-nil (λ b. eqb b 32 ≡ false)
 word_lacks (b ∷ text) h =
     let parts = and_parts (not (eqb b 32)) (list_all (λ x. not (eqb x 32)) text) h in

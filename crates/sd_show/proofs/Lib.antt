@@ -1,0 +1,10 @@
+pub mod Behind
+pub mod Choices
+pub mod Spaced
+pub mod Named
+pub mod Stands
+pub mod Same
+pub mod Texts
+pub mod Choosing
+pub mod Once
+pub mod Back

@@ -1,0 +1,5 @@
+use Rattle.sd_show.proofs.Once.{never_both}
+use Rattle.sd_show.proofs.laws.never_both.Goals as goal
+
+pub returns : goal.returns
+returns c = never_both

@@ -1,0 +1,5 @@
+use Rattle.sd_show.proofs.Once.{one_text}
+use Rattle.sd_show.proofs.laws.one_text.Goals as goal
+
+pub returns : goal.returns
+returns c = one_text

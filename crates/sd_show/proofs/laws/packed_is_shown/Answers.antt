@@ -1,0 +1,5 @@
+use Rattle.sd_show.proofs.Back.{packed_is_shown}
+use Rattle.sd_show.proofs.laws.packed_is_shown.Goals as goal
+
+pub returns : goal.returns
+returns c = packed_is_shown

@@ -1,0 +1,5 @@
+use Rattle.sd_show.proofs.Back.{shown_is_packed}
+use Rattle.sd_show.proofs.laws.shown_is_packed.Goals as goal
+
+pub returns : goal.returns
+returns c = shown_is_packed
