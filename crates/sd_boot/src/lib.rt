@@ -7,6 +7,7 @@
 
 mod input;
 mod output;
+mod packet_texts;
 mod play;
 mod programs;
 mod replay;

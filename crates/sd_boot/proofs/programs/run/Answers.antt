@@ -1,0 +1,62 @@
+use Rattle.std.proofs.Common.{◌≡◌, ◌≤◌, ◌∙◌, ap, sym, subst}
+use Rattle.sd_boot.specs.declared.status.Status.{Status}
+use Rattle.sd_boot.specs.declared.words.Program.TheVariants.{Replay, Show, Pack}
+use Rattle.sd_boot.proofs.Performing.{done_by, refused_by, cut_by, no_row}
+use Rattle.sd_boot.proofs.programs.run.Goals as goal
+
+pub returns-in-Some-clause-transcript : goal.returns-in-Some-clause-transcript
+returns-in-Some-clause-transcript g c = λ words status.
+    done_by Replay c.in-Some.program c.args.words.now c.perform.result (g.S.Source.left c.args.source.now) (g.K.Sink.written c.args.sink.now) (g.K.Sink.written c.perform.new.sink) words c.in-Some.ensures
+    (ap (λ (s : Status). s.0) (sym c.status_of.ensures) ∙ status) c.perform.ensures.told
+
+pub returns-in-Some-clause-refusal : goal.returns-in-Some-clause-refusal
+returns-in-Some-clause-refusal g c = λ words status.
+    refused_by Replay c.in-Some.program c.args.words.now c.perform.result (g.S.Source.left c.args.source.now) (g.K.Sink.written c.args.sink.now) (g.K.Sink.written c.perform.new.sink) words c.in-Some.ensures
+    (ap (λ (s : Status). s.0) (sym c.status_of.ensures) ∙ status) c.perform.ensures.told
+
+pub returns-in-Some-clause-front : goal.returns-in-Some-clause-front
+returns-in-Some-clause-front g c = λ words status.
+    cut_by Replay c.in-Some.program c.args.words.now c.perform.result (g.S.Source.left c.args.source.now) (g.K.Sink.written c.args.sink.now) (g.K.Sink.written c.perform.new.sink) words c.in-Some.ensures
+    (subst (λ (s : Status). 4 ≤ s.0) c.status_of.ensures status) c.perform.ensures.told
+
+pub returns-in-Some-clause-shown : goal.returns-in-Some-clause-shown
+returns-in-Some-clause-shown g c = λ words status.
+    done_by Show c.in-Some.program c.args.words.now c.perform.result (g.S.Source.left c.args.source.now) (g.K.Sink.written c.args.sink.now) (g.K.Sink.written c.perform.new.sink) words c.in-Some.ensures
+    (ap (λ (s : Status). s.0) (sym c.status_of.ensures) ∙ status) c.perform.ensures.told
+
+pub returns-in-Some-clause-show_refusal : goal.returns-in-Some-clause-show_refusal
+returns-in-Some-clause-show_refusal g c = λ words status.
+    refused_by Show c.in-Some.program c.args.words.now c.perform.result (g.S.Source.left c.args.source.now) (g.K.Sink.written c.args.sink.now) (g.K.Sink.written c.perform.new.sink) words c.in-Some.ensures
+    (ap (λ (s : Status). s.0) (sym c.status_of.ensures) ∙ status) c.perform.ensures.told
+
+pub returns-in-Some-clause-show_front : goal.returns-in-Some-clause-show_front
+returns-in-Some-clause-show_front g c = λ words status.
+    cut_by Show c.in-Some.program c.args.words.now c.perform.result (g.S.Source.left c.args.source.now) (g.K.Sink.written c.args.sink.now) (g.K.Sink.written c.perform.new.sink) words c.in-Some.ensures
+    (subst (λ (s : Status). 4 ≤ s.0) c.status_of.ensures status) c.perform.ensures.told
+
+pub returns-in-Some-clause-packed : goal.returns-in-Some-clause-packed
+returns-in-Some-clause-packed g c = λ words status.
+    done_by Pack c.in-Some.program c.args.words.now c.perform.result (g.S.Source.left c.args.source.now) (g.K.Sink.written c.args.sink.now) (g.K.Sink.written c.perform.new.sink) words c.in-Some.ensures
+    (ap (λ (s : Status). s.0) (sym c.status_of.ensures) ∙ status) c.perform.ensures.told
+
+pub returns-in-Some-clause-pack_refusal : goal.returns-in-Some-clause-pack_refusal
+returns-in-Some-clause-pack_refusal g c = λ words status.
+    refused_by Pack c.in-Some.program c.args.words.now c.perform.result (g.S.Source.left c.args.source.now) (g.K.Sink.written c.args.sink.now) (g.K.Sink.written c.perform.new.sink) words c.in-Some.ensures
+    (ap (λ (s : Status). s.0) (sym c.status_of.ensures) ∙ status) c.perform.ensures.told
+
+pub returns-in-Some-clause-pack_front : goal.returns-in-Some-clause-pack_front
+returns-in-Some-clause-pack_front g c = λ words status.
+    cut_by Pack c.in-Some.program c.args.words.now c.perform.result (g.S.Source.left c.args.source.now) (g.K.Sink.written c.args.sink.now) (g.K.Sink.written c.perform.new.sink) words c.in-Some.ensures
+    (subst (λ (s : Status). 4 ≤ s.0) c.status_of.ensures status) c.perform.ensures.told
+
+pub returns-in-None-clause-front : goal.returns-in-None-clause-front
+returns-in-None-clause-front g c = λ words status. absurd (c.in-None.ensures Replay words)
+
+pub returns-in-None-clause-show_front : goal.returns-in-None-clause-show_front
+returns-in-None-clause-show_front g c = λ words status. absurd (c.in-None.ensures Show words)
+
+pub returns-in-None-clause-pack_front : goal.returns-in-None-clause-pack_front
+returns-in-None-clause-pack_front g c = λ words status. absurd (c.in-None.ensures Pack words)
+
+pub returns-in-None-clause-known : goal.returns-in-None-clause-known
+returns-in-None-clause-known g c = λ row status. no_row c.args.words.now c.in-None.ensures row
