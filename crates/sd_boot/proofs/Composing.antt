@@ -19,12 +19,14 @@ use Rattle.sd_script.specs.declared.script.Script.{Script}
 use Rattle.sd_script.specs.declared.script.Command.{Command}
 use Rattle.sd_claims.specs.Machine.{first_state, IsRun}
 use Rattle.sd_claims.specs.Transcript.{Done, AllCaused, transcript}
+use Rattle.sd_claims.specs.Ending.{AllEnd}
 use Rattle.sd_claims.specs.Session.{parts_of, IsSession, IsCutSession}
 use Rattle.sd_claims.specs.Headline.{AreDone, Plays, PlaysFront, written}
 use Rattle.sd_boot_chain.specs.Client.{Lasts, most_session_ticks}
 use Rattle.sd_boot_chain.proofs.Gaining.{gains_nothing}
 use Rattle.sd_boot.specs.Play.{GainsSome}
 use Rattle.sd_boot.proofs.Honest.{answers_run}
+use Rattle.sd_boot.proofs.Completing.{complete}
 
 -- the history of a script at its start
 abbrev pub first_history : Script → History
@@ -53,12 +55,14 @@ lawful_part s new part goes law =
     subst (λ (l : List Step). IsLawful s.config (fates_of s.events) l) goes.steps
     (subst (λ (e : Events). IsLawful s.config (fates_of e) new.steps) goes.events (subst (λ (c : Config). IsLawful c (fates_of new.events) new.steps) goes.config law))
 
--- commands that were done over a lawful history, each with its cause, are done as the script owes
-done_so : (s : Script) → IsConfig s.config → (commands : List Command) (done : List Done) → IsLawful s.config (fates_of s.events) (parts_of done) → AllCaused s.config commands done → AreDone s commands done
-done_so s is commands done law caused = record {
+-- commands that were done over a lawful history, each with its cause and ending as it says, are done as the script owes
+done_so : (s : Script) → IsConfig s.config → (commands : List Command) (done : List Done) → IsLawful s.config (fates_of s.events) (parts_of done) → AllCaused s.config commands done
+    → AllEnd s.config (fates_of s.events) (start s.config) [] done → AreDone s commands done
+done_so s is commands done law caused ended = record {
   lawful = law;
   machine = answers_run s.config is first_state (start s.config) commands done tt law.allowed caused;
   caused = caused;
+  complete = complete s is commands done law caused ended;
 }
 
 -- ---- the whole
@@ -72,7 +76,7 @@ played s client before after new is is_for law moved =
     let lawful = subst (λ (l : List Step). IsLawful s.config (fates_of s.events) l) session.cut (lawful_part s new part moved.1 law) in (
       written s session.done,
       session.text,
-      record { done = session.done; all = done_so s is s.commands session.done lawful session.caused; whole = refl },
+      record { done = session.done; all = done_so s is s.commands session.done lawful session.caused session.ended; whole = refl },
     )
 
 pub cut_short : (s : Script) (client : ClientConfig) (before after : Option (List ℕ)) (new : History) → IsConfig s.config → IsFor s.config client → LawfulHistory new
@@ -85,7 +89,7 @@ cut_short s client before after new is is_for law moved =
     let front = lawful-front s.config (fates_of s.events) (parts_of session.done) session.more lawful in (
       session.front,
       session.text,
-      record { count = session.count; done = session.done; some = done_so s is (take session.count s.commands) session.done front session.caused; front = session.short },
+      record { count = session.count; done = session.done; some = done_so s is (take session.count s.commands) session.done front session.caused session.ended; front = session.short },
     )
 
 -- ---- no fault of the link comes in a session
@@ -110,7 +114,7 @@ pub unplayed : (s : Script) (told : Option (List ℕ)) → GainsSome told told (
 unplayed s told = (
   [],
   gains_nothing told,
-  record { count = 0; done = []; some = record { lawful = record { allowed = tt; in_turn = tt }; machine = tt; caused = tt }; front = ([], refl) },
+  record { count = 0; done = []; some = record { lawful = record { allowed = tt; in_turn = tt }; machine = tt; caused = tt; complete = λ calm. tt }; front = ([], refl) },
 )
 
 pub play_done : (s : Script) (client : ClientConfig) (before after : Option (List ℕ)) (old new : History) (faults_old faults_new tick : ℕ) → IsConfig s.config → IsFor s.config client

@@ -153,7 +153,7 @@ module _ (c : Config) (is : IsConfig c) where
       of later None is e = later e
       of later (Some x) is e = sym (some_is x ip e) ∙ all.0 x is
 
-  allowed-split : (w : World) (xs ys : List Step) → AllAllowed c w (xs ++ ys) → AllAllowed c w xs × AllAllowed c (run c w xs) ys
+  pub allowed-split : (w : World) (xs ys : List Step) → AllAllowed c w (xs ++ ys) → AllAllowed c w xs × AllAllowed c (run c w xs) ys
   allowed-split w [] ys all = (tt, all)
   allowed-split w (x ∷ xs) ys all = let s = allowed-split (after c w x) xs ys all.1 in ((all.0, s.0), s.1)
 

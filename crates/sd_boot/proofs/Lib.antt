@@ -1,5 +1,8 @@
 pub mod Cutting
 pub mod Honest
+pub mod Stages
+pub mod Following
+pub mod Completing
 pub mod Composing
 pub mod Performing
 pub mod Replaying

@@ -1,6 +1,9 @@
 -- What a status says of the program that the words call for.
 use Rattle.std.proofs.Common.{◌≡◌, ℕ, ◌≤◌, List, [], ◌∷◌, Option, Some, None, Result, Ok, Err, refl, sym, ◌∙◌, ap, subst, arith, get_or, inl, inr}
-use Rattle.std.specs.Prelude.{codes}
+use Rattle.std.specs.Prelude.{◌⊎◌, IsErrOf, IfSome, codes}
+use Rattle.sd_outside.specs.Causes.{Rose}
+use Rattle.sd_script.specs.declared.script.Script.{Script}
+use Rattle.sd_script.specs.Grammar.{IsScript}
 use Rattle.sd_claims.specs.Headline.{Writes}
 use Rattle.sd_boot.specs.declared.packet_texts.Direction.{Direction}
 use Rattle.sd_boot.specs.declared.packet_texts.Direction.TheVariants as directions
@@ -14,7 +17,7 @@ use Rattle.sd_boot.specs.Status.{status_for}
 use Rattle.sd_boot.specs.Words.{HasWords, IsRow}
 use Rattle.sd_boot.specs.PacketTexts.{IsTranslated, IsPlaced, IsNoneOrPart, Translates}
 use Rattle.sd_boot.specs.Programs.{IsDone, IsRefused, IsCut, Performs}
-use Rattle.sd_boot.proofs.Statuses.{whole_of, refusal_of, front_of}
+use Rattle.sd_boot.proofs.Statuses.{whole_of, refusal_of, front_of, script_done}
 
 -- words call for one program
 
@@ -84,6 +87,12 @@ refused_by q p words r told old new x y is w = subst (λ (one : Program). Writes
 pub cut_by : (q p : Program) (words : List (List ℕ)) (r : Result Ended Stop) (told old new : Option (List ℕ)) → HasWords q words → HasWords p words → 4 ≤ (status_for r).0
     → Writes told old new (Performs p r) → Writes told old new (IsCut q)
 cut_by q p words r told old new x y is w = subst (λ (one : Program). Writes told old new (IsCut one)) (one_program p q words y x) (cut p r told old new is w)
+
+pub complete_by : (p : Program) (words : List (List ℕ)) (r : Result Ended Stop) (told old new : Option (List ℕ)) (source_old source_new sink_old sink_new : ℕ) → HasWords Replay words → HasWords p words
+    → Writes told old new (Performs p r) → (IsErrOf r SourceFault → Rose source_old source_new) → (IsErrOf r SinkFault → Rose sink_old sink_new) → (Rose source_old source_new → ⊥) → (Rose sink_old sink_new → ⊥)
+    → IfSome told (λ text. (script : Script) → IsScript text script → ((status_for r).0 ≡ 0) ⊎ ((status_for r).0 ≡ 5))
+complete_by p words r told old new source_old source_new sink_old sink_new x y w read write calm_source calm_sink =
+    script_done r told old new source_old source_new sink_old sink_new (subst (λ (one : Program). Writes told old new (Performs one r)) (one_program p Replay words y x) w) read write calm_source calm_sink
 
 -- the words of no program are in no row
 pub no_row : (words : List (List ℕ)) → ((p : Program) → HasWords p words → ⊥) → IsRow words → ⊥

@@ -2,6 +2,8 @@
 ghost use Rattle.std.specs.Prelude.{◌≡◌, ◌⊎◌, ◌≤◌, OnOk, IfOk, IfSome, IsErrOf, Some, []};
 ghost use Rattle.sd_outside.specs.Causes.{Rose};
 ghost use Rattle.sd_outside.specs.Streams.{Gains};
+ghost use Rattle.sd_script.specs.declared.script.Script.{Script};
+ghost use Rattle.sd_script.specs.Grammar.{IsScript};
 ghost use Rattle.sd_claims.specs.Headline.{IsTranscript, IsRefusal, IsFront, Writes};
 ghost use Rattle.sd_boot.specs.PacketTexts.{IsShown, IsShowRefusal, IsShowFront, IsPacked, IsPackRefusal, IsPackFront};
 ghost use Rattle.sd_boot.specs.Programs.{Performs};
@@ -49,7 +51,8 @@ pub fn run<S: Source, K: Sink>(
     sink: &mut K,
 ) -> Status
     // The headline. The words are `replay`, and all was done: the output is the transcript of a script that the input
-    // spells. Its steps are a lawful run, its answers are those of the boot machine, each is earned or caused by its part.
+    // spells. Its steps are a lawful run, its answers are those of the boot machine, each is earned or caused by its part,
+    // and all are ok where the network loses, delays and repeats nothing and the client waits two ticks or more.
     ensures transcript { IsReplay words.now → result.0 ≡ 0 →
         Writes (S.left source.old) (K.written sink.old) (K.written sink.new) IsTranscript }
     // Refused: the output is the line that names the first line outside the grammar.
@@ -85,6 +88,9 @@ pub fn run<S: Source, K: Sink>(
     ensures sink { result.0 ≡ 4 → Rose (K.faults sink.old) (K.faults sink.new) }
     ensures calm_source { result.0 ≤ 2 → S.faults source.new ≡ S.faults source.old }
     ensures calm_sink { result.0 ≤ 2 → K.faults sink.new ≡ K.faults sink.old }
+    // Where neither the source nor the sink fails, a script is played to its end, unless memory is wanting.
+    ensures complete { IsReplay words.now → (Rose (S.faults source.old) (S.faults source.new) → ⊥) → (Rose (K.faults sink.old) (K.faults sink.new) → ⊥) →
+        IfSome (S.left source.old) (λ text. (script : Script) → IsScript text script → (result.0 ≡ 0) ⊎ (result.0 ≡ 5)) }
     ensures whole { result.0 ≡ 0 → IfSome (S.left source.old) (λ all. S.left source.new ≡ Some []) }
 {
     match program_of(words) {

@@ -1,5 +1,6 @@
 pub mod Getting
 pub mod Lasting
+pub mod Settling
 pub mod Listening
 pub mod Tried
 pub mod Trying

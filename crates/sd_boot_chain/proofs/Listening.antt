@@ -11,6 +11,7 @@ use Rattle.sd_claims.specs.Tries.{first_match, or_else, flood_limit}
 use Rattle.sd_claims.specs.Rarp.{told_address}
 use Rattle.sd_boot_chain.specs.declared.address.Heard.TheVariants.{Address, Nothing, Flood, Fault}
 use Rattle.sd_boot_chain.specs.Client.{Hears}
+use Rattle.sd_boot_chain.proofs.Settling.{ends_later, settled-then}
 use Rattle.sd_boot_chain.proofs.Getting.{Gets, gets_none, got_one, gets_packet, gets_nothing, gets_until, gets_error}
 
 -- so many packets were got, and none matched
@@ -58,7 +59,7 @@ module _ (mac : Mac) (until count : ℕ) (a b : History) (xs ys : List Step) (go
   pub hears_address : count < flood_limit → (packet : Packet) (ip : ℕ) → told_address mac packet ≡ Some ip → Receives until (Ok (Some packet)) b ys → Hears mac until (Address ip) a (xs ++ ys)
   hears_address few packet ip is r =
       let g = gets_packet until count a b xs ys goes q.gets packet r in
-      record { silent = g.silent; ticks = g.ticks; found = (then_matches mac until packet b xs ys (Some ip) q.unmatched r is, omega (arith, g.counted)) }
+      record { silent = g.silent; ticks = g.ticks; found = (then_matches mac until packet b xs ys (Some ip) q.unmatched r is, omega (arith, g.counted), ends_later xs ys (r.hands.0, r.hands.1, packet, r.hands.2)) }
 
   pub still_quiet : (packet : Packet) → told_address mac packet ≡ None → Receives until (Ok (Some packet)) b ys → Quiet mac until (count + 1) a (xs ++ ys)
   still_quiet packet is r = record { gets = gets_packet until count a b xs ys goes q.gets packet r; unmatched = then_matches mac until packet b xs ys None q.unmatched r is }
@@ -69,7 +70,7 @@ module _ (mac : Mac) (until count : ℕ) (a b : History) (xs ys : List Step) (go
       record {
         silent = g.silent;
         ticks = g.ticks;
-        found = (then_nothing mac xs ys q.unmatched r.hands.0, gets_until until count a b xs ys goes q.gets r, omega (arith, few, g.counted));
+        found = (then_nothing mac xs ys q.unmatched r.hands.0, gets_until until count a b xs ys goes q.gets r, omega (arith, few, g.counted), settled-then a b xs ys goes r.hands.2);
       }
 
   pub hears_fault : (why : LinkError) → Receives until (Err why) b ys → Hears mac until Fault a (xs ++ ys)

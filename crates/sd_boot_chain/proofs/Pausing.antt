@@ -8,13 +8,14 @@ use Rattle.sd_claims.specs.Tries.{flood_limit}
 use Rattle.sd_boot_chain.specs.declared.pause.Pause.{Pause}
 use Rattle.sd_boot_chain.specs.declared.pause.Pause.TheVariants.{Over, Flood, Fault}
 use Rattle.sd_boot_chain.specs.Pause.{Passes, IsPause}
+use Rattle.sd_boot_chain.proofs.Settling.{settled-then}
 use Rattle.sd_boot_chain.proofs.Getting.{Gets, gets_nothing, gets_until, gets_error, short, waited, at_now}
 
 module _ (until count : ℕ) (a b : History) (xs ys : List Step) (goes : GoesOn a b xs) (q : Gets until count a xs) where
   pub passes_over : count < flood_limit → Receives until (Ok None) b ys → Passes until Over a (xs ++ ys)
   passes_over few r =
       let g = gets_nothing until count a b xs ys goes q r in
-      record { silent = g.silent; ticks = g.ticks; ended = (gets_until until count a b xs ys goes q r, omega (arith, few, g.counted)) }
+      record { silent = g.silent; ticks = g.ticks; ended = (gets_until until count a b xs ys goes q r, omega (arith, few, g.counted), settled-then a b xs ys goes r.hands.2) }
 
   pub passes_fault : (why : LinkError) → Receives until (Err why) b ys → Passes until Fault a (xs ++ ys)
   passes_fault why r =
@@ -25,7 +26,7 @@ pub passes_flood : (until : ℕ) (h : History) (part : List Step) → Gets until
 passes_flood until h part g = record { silent = g.silent; ticks = g.ticks; ended = g.counted }
 
 pause_is : (ticks now : ℕ) (pause : Pause) (h : History) (part : List Step) → now ≡ (world_of h).tick → Passes (now + ticks) pause h part → IsPause ticks pause h part
-pause_is ticks now Over h part at p = record { silent = p.silent; passed = waited ticks now h part at p.ticks p.ended.0; calm = p.ended.1 }
+pause_is ticks now Over h part at p = (record { silent = p.silent; passed = waited ticks now h part at p.ticks p.ended.0; calm = p.ended.1 }, p.ended.2)
 pause_is ticks now Flood h part at p = record { silent = p.silent; passed = short ticks now h part at p.ticks; many = p.ended }
 pause_is ticks now Fault h part at p = tt
 

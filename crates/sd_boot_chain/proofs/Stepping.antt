@@ -7,28 +7,24 @@ use Rattle.std.proofs.lemmas.List.{append-nil, append_cancel_left}
 use Rattle.sd_outside.specs.Streams.{Gains}
 use Rattle.sd_link.specs.declared.config.Config.{Config}
 use Rattle.sd_link.specs.declared.config.ClientConfig.{ClientConfig}
+use Rattle.sd_link.specs.declared.events.Events.{Events}
+use Rattle.sd_link.specs.Events.{Fates, fates_of}
 use Rattle.sd_link.specs.Config.{IsFor}
 use Rattle.sd_link.specs.World.{World, start}
 use Rattle.sd_link.specs.Steps.{Step, Entry, History, world_of, whole_record, record_of, run}
 use Rattle.sd_link.specs.Text.{record_text, entry_text}
 use Rattle.sd_link.specs.Link.{GoesOn, Moves, Drains}
-use Rattle.sd_link.proofs.Histories.{record-append, run-append, world-goes, moves_then, moves_weaker}
+use Rattle.sd_link.proofs.Histories.{record-append, record-goes, run-append, world-goes, moves_then, moves_weaker}
 use Rattle.sd_script.specs.declared.script.Command.{Command}
 use Rattle.sd_script.specs.declared.told.Told.{Told}
 use Rattle.sd_script.specs.Answers.{answer_line}
 use Rattle.sd_claims.specs.Causes.{IsCaused}
+use Rattle.sd_claims.specs.Ending.{Ends, EndsAfter, AllEnd}
 use Rattle.sd_claims.specs.Transcript.{Done, transcript, AllCaused}
 use Rattle.sd_claims.specs.Session.{IsSession, IsCutSession, parts_of}
 use Rattle.sd_boot_chain.specs.Writing.{GainsFront}
-use Rattle.sd_boot_chain.specs.Step.{IsStep}
+use Rattle.sd_boot_chain.specs.Step.{IsStep, IsAnswered}
 use Rattle.sd_boot_chain.proofs.Gaining.{gains_then, gains_nothing}
-
--- the record goes on with the history
-pub record-goes : (a b : History) (xs : List Step) → GoesOn a b xs → whole_record b ≡ whole_record a ++ record_of a.config (world_of a) xs
-record-goes a b xs goes =
-    ap (λ (c : Config). record_of c (start c) b.steps) goes.config
-    ∙ ap (λ (l : List Step). record_of a.config (start a.config) l) goes.steps
-    ∙ record-append a.config (start a.config) a.steps xs
 
 -- what was drained is the text of the new entries
 pub new_lines : (a b : History) (xs : List Step) (old new added : List ℕ) → GoesOn a b xs → new ≡ old ++ added → old ≡ record_text (whole_record a) → new ≡ record_text (whole_record b)
@@ -47,7 +43,7 @@ moves_to (Some old) (Some new) P Q q m = (m.0, m.1, (new, m.1, q, m.2))
 
 -- one command: its answer, the lines that were drained, and the answer line
 pub is_step : (old new : Option History) (config : ClientConfig) (command : Command) (answer : Told) (drained_old drained_new added text : List ℕ)
-    → Moves old new (λ h part. IsFor h.config config → IsCaused h.config command answer part)
+    → Moves old new (λ h part. IsFor h.config config → IsAnswered command answer h part)
     → IfSome new (λ h. drained_new ≡ record_text (whole_record h))
     → drained_new ≡ drained_old ++ added → text ≡ added ++ answer_line answer
     → Moves old new (IsStep config command drained_old text)
@@ -55,7 +51,7 @@ is_step old new config command answer drained_old drained_new added text moved w
     moves_weaker old new _ (IsStep config command drained_old text)
     (λ h part m. record {
       answer = answer;
-      caused = m.3;
+      answered = m.3;
       shown = λ was. is ∙ ap (λ (l : List ℕ). l ++ answer_line answer) (new_lines h m.0 part drained_old drained_new added m.1 drains was m.2);
     })
     (moves_to old new _ (λ h. drained_new ≡ record_text (whole_record h)) whole moved)
@@ -92,8 +88,33 @@ transcript-push c w (e ∷ es) d =
 parts-push : (done : List Done) (d : Done) → parts_of (done ++ d ∷ []) ≡ parts_of done ++ d.part
 parts-push done d = flat_map-append (λ e. e.part) done (d ∷ []) ∙ ap (λ (l : List Step). parts_of done ++ l) (append-nil d.part)
 
+-- one command more ends so
+ends-push : (c : Config) (fates : Fates) (w : World) (entries : List Entry) (done : List Done) (d : Done) → AllEnd c fates w entries done
+    → Ends c fates (run c w (parts_of done)) (entries ++ record_of c w (parts_of done)) d.answer d.part → AllEnd c fates w entries (done ++ d ∷ [])
+ends-push c fates w entries [] d all one = (subst (λ (l : List Entry). Ends c fates w l d.answer d.part) (append-nil entries) one, tt)
+ends-push c fates w entries (e ∷ es) d all one =
+    let v = run c w e.part in
+    let here = entries ++ record_of c w e.part in
+    let there : entries ++ record_of c w (e.part ++ parts_of es) ≡ here ++ record_of c v (parts_of es) =
+    ap (λ (l : List Entry). entries ++ l) (record-append c w e.part (parts_of es)) ∙ sym (append_assoc entries (record_of c w e.part) (record_of c v (parts_of es))) in (
+      all.0,
+      ends-push c fates v here es d all.1
+          (subst (λ (u : World). Ends c fates u (here ++ record_of c v (parts_of es)) d.answer d.part) (run-append c w e.part (parts_of es))
+          (subst (λ (l : List Entry). Ends c fates (run c w (e.part ++ parts_of es)) l d.answer d.part) there one)),
+    )
+
+session_ends : (a b : History) (xs ys : List Step) → GoesOn a b xs → (done : List Done) (answer : Told) → xs ≡ parts_of done → AllEnd a.config (fates_of a.events) (world_of a) (whole_record a) done → EndsAfter b answer ys
+    → AllEnd a.config (fates_of a.events) (world_of a) (whole_record a) (done ++ record { part = ys; answer = answer } ∷ [])
+session_ends a b xs ys goes done answer cut all one =
+    ends-push a.config (fates_of a.events) (world_of a) (whole_record a) done (record { part = ys; answer = answer }) all
+    (subst (λ (l : List Step). Ends a.config (fates_of a.events) (run a.config (world_of a) l) (whole_record a ++ record_of a.config (world_of a) l) answer ys) cut
+    (subst (λ (l : List Entry). Ends a.config (fates_of a.events) (run a.config (world_of a) xs) l answer ys) (record-goes a b xs goes)
+    (subst (λ (w : World). Ends a.config (fates_of a.events) w (whole_record b) answer ys) (world-goes a b xs goes)
+    (subst (λ (e : Events). Ends a.config (fates_of e) (world_of b) (whole_record b) answer ys) goes.events
+    (subst (λ (c : Config). Ends c (fates_of b.events) (world_of b) (whole_record b) answer ys) goes.config one)))))
+
 pub session_none : (told : Option (List ℕ)) (h : History) → IsSession [] told told h []
-session_none told h = record { done = []; cut = refl; caused = tt; text = gains_nothing told }
+session_none told h = record { done = []; cut = refl; caused = tt; ended = tt; text = gains_nothing told }
 
 pub session_more : (config : ClientConfig) (commands : List Command) (command : Command) (before mid after : Option (List ℕ)) (drained text : List ℕ) (a b : History) (xs ys : List Step)
     → GoesOn a b xs → IsFor a.config config → IsSession commands before mid a xs → drained ≡ record_text (whole_record b) → IsStep config command drained text b ys → Gains mid after text
@@ -102,7 +123,8 @@ session_more config commands command before mid after drained text a b xs ys goe
     let d : Done = record { part = ys; answer = t.answer } in
     let same : b.config ≡ a.config = goes.config in
     let is_for_b : IsFor b.config config = subst (λ (c : Config). IsFor c config) (sym same) is_for in
-    let caused : IsCaused a.config command t.answer ys = subst (λ (c : Config). IsCaused c command t.answer ys) same (t.caused is_for_b) in
+    let answered = t.answered is_for_b in
+    let caused : IsCaused a.config command t.answer ys = subst (λ (c : Config). IsCaused c command t.answer ys) same answered.caused in
     let here : world_of b ≡ run a.config (world_of a) (parts_of s.done) = world-goes a b xs goes ∙ ap (λ (l : List Step). run a.config (world_of a) l) s.cut in
     let shown : text ≡ text_of a.config (run a.config (world_of a) (parts_of s.done)) d =
     t.shown was ∙ ap (λ (c : Config). text_of c (world_of b) d) same ∙ ap (λ (w : World). text_of a.config w d) here in
@@ -110,6 +132,7 @@ session_more config commands command before mid after drained text a b xs ys goe
       done = s.done ++ d ∷ [];
       cut = ap (λ (l : List Step). l ++ ys) s.cut ∙ sym (parts-push s.done d);
       caused = caused-push a.config commands command s.done d s.caused caused;
+      ended = session_ends a b xs ys goes s.done t.answer s.cut s.ended answered.ended;
       text =
           subst (λ (l : List ℕ). Gains before after l) (sym (transcript-push a.config (world_of a) s.done d))
           (gains_then before mid after (transcript a.config (world_of a) s.done) (text_of a.config (run a.config (world_of a) (parts_of s.done)) d) s.text
@@ -126,6 +149,7 @@ session_cut commands n before mid a xs ys s = record {
   more = ys;
   cut = ap (λ (l : List Step). l ++ ys) s.cut;
   caused = s.caused;
+  ended = s.ended;
   front = transcript a.config (world_of a) s.done;
   short = ([], append-nil (transcript a.config (world_of a) s.done));
   text = s.text;
@@ -140,7 +164,8 @@ session_stops config commands n command before mid after drained text a b xs ys 
     let d : Done = record { part = ys; answer = t.answer } in
     let same : b.config ≡ a.config = goes.config in
     let is_for_b : IsFor b.config config = subst (λ (c : Config). IsFor c config) (sym same) is_for in
-    let caused : IsCaused a.config command t.answer ys = subst (λ (c : Config). IsCaused c command t.answer ys) same (t.caused is_for_b) in
+    let answered = t.answered is_for_b in
+    let caused : IsCaused a.config command t.answer ys = subst (λ (c : Config). IsCaused c command t.answer ys) same answered.caused in
     let here : world_of b ≡ run a.config (world_of a) (parts_of s.done) = world-goes a b xs goes ∙ ap (λ (l : List Step). run a.config (world_of a) l) s.cut in
     let last = text_of a.config (run a.config (world_of a) (parts_of s.done)) d in
     let shown : text ≡ last = t.shown was ∙ ap (λ (c : Config). text_of c (world_of b) d) same ∙ ap (λ (w : World). text_of a.config w d) here in
@@ -153,6 +178,7 @@ session_stops config commands n command before mid after drained text a b xs ys 
       more = [];
       cut = ap (λ (l : List Step). l ++ ys) s.cut ∙ sym (parts-push s.done d) ∙ sym (append-nil (parts_of (s.done ++ d ∷ [])));
       caused = subst (λ (l : List Command). AllCaused a.config l (s.done ++ d ∷ [])) (sym more) (caused-push a.config (take n commands) command s.done d s.caused caused);
+      ended = session_ends a b xs ys goes s.done t.answer s.cut s.ended answered.ended;
       front = so_far ++ gained.0;
       short = (gained.1.0, whole);
       text = gains_then before mid after so_far gained.0 s.text gained.2;

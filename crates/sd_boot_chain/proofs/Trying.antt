@@ -10,14 +10,18 @@ use Rattle.sd_link.specs.declared.config.ClientConfig.{ClientConfig}
 use Rattle.sd_link.specs.Config.{IsFor}
 use Rattle.sd_link.specs.Steps.{Step, Send, History}
 use Rattle.sd_link.specs.Parts.{sends_in, got_in, ticks_in}
-use Rattle.sd_link.specs.Link.{Moves}
+use Rattle.sd_link.specs.declared.link.Stage.{Stage}
+use Rattle.sd_link.specs.Link.{GoesOn, Moves, NothingWaits, IsSettledBy}
 use Rattle.sd_link.proofs.Histories.{got-append}
+use Rattle.sd_script.specs.declared.told.Told.TheVariants.{AddrOk, AddrTimeout, AddrFlood}
+use Rattle.sd_claims.specs.Ending.{EndsAfter}
 use Rattle.sd_claims.specs.Tries.{first_match, flood_limit, IsTries, AreInVain, Asks, Answered, Flooded, TimedOut}
 use Rattle.sd_claims.specs.Rarp.{told_address}
 use Rattle.sd_boot_chain.specs.declared.address.Heard.{Heard}
 use Rattle.sd_boot_chain.specs.declared.address.Heard.TheVariants.{Address, Nothing, Flood}
 use Rattle.sd_boot_chain.specs.Client.{Tried, IsTry, EndsTry}
 use Rattle.sd_boot_chain.proofs.Listening.{first_match-append}
+use Rattle.sd_boot_chain.proofs.Settling.{SendsIn, ends_later, settled-none, settled-then, sends-try}
 
 -- so many tries were made, all in vain
 pub record Vain (request : Packet) (mac : Mac) (wait count : ℕ) (old : History) (part : List Step) : Type 0 where
@@ -26,9 +30,10 @@ pub record Vain (request : Packet) (mac : Mac) (wait count : ℕ) (old : History
   pub counted : length rests ≡ count
   pub vain : AreInVain wait rests
   pub unmatched : first_match (told_address mac) (got_in part) ≡ None
+  pub patient : NothingWaits old → SendsIn old part × IsSettledBy old part
 
 pub vain_none : (request : Packet) (mac : Mac) (wait : ℕ) (h : History) → Vain request mac wait 0 h []
-vain_none request mac wait h = record { rests = []; is = record { cut = refl; silent = tt }; counted = refl; vain = record { waited = tt; calm = tt }; unmatched = refl }
+vain_none request mac wait h = record { rests = []; is = record { cut = refl; silent = tt }; counted = refl; vain = record { waited = tt; calm = tt }; unmatched = refl; patient = λ settled. (tt, settled-none h settled) }
 
 all-push : {A : Type 0} (P : A → Type 0) (xs : List A) (x : A) → AllByRecursion P xs → P x → AllByRecursion P (xs ++ x ∷ [])
 all-push P [] x all one = (one, tt)
@@ -56,9 +61,13 @@ then_first mac request xs rest ys o none cut is =
 count-push : {A : Type 0} (xs : List A) (x : A) (n : ℕ) → length xs ≡ n → length (xs ++ x ∷ []) ≡ n + 1
 count-push xs x n is = length-append xs (x ∷ []) ∙ ap (λ (k : ℕ). k + 1) is
 
-module _ (request : Packet) (mac : Mac) (wait count : ℕ) (a b : History) (xs ys : List Step) (v : Vain request mac wait count a xs) where
+module _ (request : Packet) (mac : Mac) (wait count : ℕ) (a b : History) (xs ys : List Step) (goes : GoesOn a b xs) (v : Vain request mac wait count a xs) where
+  -- where nothing waited at first, the next try begins where nothing waits
+  sends_more : (rest : List Step) → ys ≡ Send request ∷ rest → sends_in rest ≡ [] → NothingWaits a → SendsIn a (xs ++ ys)
+  sends_more rest cut silent was = let p = v.patient was in sends-try request a xs rest ys cut silent p.0 p.1
+
   pub vain_more : Tried request mac wait Nothing b ys → Vain request mac wait (count + 1) a (xs ++ ys)
-  vain_more t = record {
+  vain_more (t, settled) = record {
     rests = v.rests ++ t.rest ∷ [];
     is = tries-push request v.rests xs t.rest ys v.is t.cut t.silent;
     counted = count-push v.rests t.rest count v.counted;
@@ -67,6 +76,7 @@ module _ (request : Packet) (mac : Mac) (wait count : ℕ) (a b : History) (xs y
       calm = all-push (λ rest. length (got_in rest) < flood_limit) v.rests t.rest v.vain.calm t.shown.calm;
     };
     unmatched = then_first mac request xs t.rest ys None v.unmatched t.cut t.shown.unmatched;
+    patient = λ was. (sends_more t.rest t.cut t.silent was, settled-then a b xs ys goes settled);
   }
 
   -- the try that ends them
@@ -82,10 +92,13 @@ module _ (request : Packet) (mac : Mac) (wait count : ℕ) (a b : History) (xs y
   }
 
   pub earned : (tries ip : ℕ) → count < tries → Tried request mac wait (Address ip) b ys → Answered request (told_address mac) tries wait ip (xs ++ ys)
-  earned tries ip lt t = record {
+  earned tries ip lt (t, last) = record {
     asks = ends tries (Some ip) t.rest lt t.cut t.silent t.shown;
     first = then_first mac request xs t.rest ys (Some ip) v.unmatched t.cut t.shown.first;
   }
+
+  pub earned_ends : (ip : ℕ) → Tried request mac wait (Address ip) b ys → EndsAfter a (AddrOk ip) (xs ++ ys)
+  earned_ends ip (t, last) = (ends_later xs ys last, λ was. sends_more t.rest t.cut t.silent was)
 
   pub flooded : (tries : ℕ) → count < tries → Tried request mac wait Flood b ys → Flooded request (told_address mac) tries wait (xs ++ ys)
   unfolding ends
@@ -94,6 +107,9 @@ module _ (request : Packet) (mac : Mac) (wait count : ℕ) (a b : History) (xs y
     many = t.shown.1;
     unmatched = then_first mac request xs t.rest ys None v.unmatched t.cut t.shown.0.first;
   }
+
+  pub flooded_ends : (stage : Stage) → Tried request mac wait Flood b ys → EndsAfter a (AddrFlood stage) (xs ++ ys)
+  flooded_ends stage t = λ was. sends_more t.rest t.cut t.silent was
 
 pub timed_out : (request : Packet) (mac : Mac) (wait tries : ℕ) (h : History) (part : List Step) → Vain request mac wait tries h part → TimedOut request (told_address mac) tries wait part
 timed_out request mac wait tries h part v = record { rests = v.rests; is = v.is; all = v.counted; vain = v.vain; unmatched = v.unmatched }

@@ -4,7 +4,8 @@ use Rattle.sd_outside.specs.declared.packet.Mac.{Mac}
 use Rattle.sd_outside.specs.declared.packet.Packet.{Packet}
 use Rattle.sd_link.specs.Steps.{Step, Send, History, world_of, run}
 use Rattle.sd_link.specs.Parts.{sends_in, got_in, ticks_in}
-use Rattle.sd_link.specs.Link.{TicksBefore, Moves}
+use Rattle.sd_link.specs.Lawful.{EndsWithGet}
+use Rattle.sd_link.specs.Link.{TicksBefore, Moves, IsSettledBy}
 use Rattle.sd_claims.specs.Tries.{first_match, flood_limit}
 use Rattle.sd_claims.specs.Rarp.{told_address}
 use Rattle.sd_boot_chain.specs.declared.address.Heard.{Heard}
@@ -32,9 +33,9 @@ most_session_ticks = 1638400000
 
 -- the first match, if any, and what it means that there is none
 abbrev pub Found : Mac → ℕ → Heard → History → List Step → Type 0
-Found mac until (Address ip) old part = (first_match (told_address mac) (got_in part) ≡ Some ip) × (length (got_in part) ≤ flood_limit)
+Found mac until (Address ip) old part = (first_match (told_address mac) (got_in part) ≡ Some ip) × (length (got_in part) ≤ flood_limit) × EndsWithGet part
 Found mac until Nothing old part =
-    (first_match (told_address mac) (got_in part) ≡ None) × (until ≤ (run old.config (world_of old) part).tick) × (length (got_in part) < flood_limit)
+    (first_match (told_address mac) (got_in part) ≡ None) × (until ≤ (run old.config (world_of old) part).tick) × (length (got_in part) < flood_limit) × IsSettledBy old part
 Found mac until Flood old part = (first_match (told_address mac) (got_in part) ≡ None) × (length (got_in part) ≡ flood_limit)
 Found mac until Fault old part = Unit {0}
 
@@ -63,7 +64,7 @@ pub record WaitsTry (mac : Mac) (wait : ℕ) (rest : List Step) : Type 0 where
   pub calm : length (got_in rest) < flood_limit
 
 abbrev pub Tried : Packet → Mac → ℕ → Heard → History → List Step → Type 0
-Tried request mac wait (Address ip) old part = IsTry request (EndsTry (Some ip) mac wait) part
-Tried request mac wait Nothing old part = IsTry request (WaitsTry mac wait) part
+Tried request mac wait (Address ip) old part = IsTry request (EndsTry (Some ip) mac wait) part × EndsWithGet part
+Tried request mac wait Nothing old part = IsTry request (WaitsTry mac wait) part × IsSettledBy old part
 Tried request mac wait Flood old part = IsTry request (λ rest. EndsTry None mac wait rest × (length (got_in rest) ≡ flood_limit)) part
 Tried request mac wait Fault old part = Unit {0}

@@ -2,6 +2,7 @@
 use Rattle.std.specs.Prelude.{◌≡◌, ℕ, ◌<◌, ◌≤◌, List, [], length}
 use Rattle.sd_link.specs.Steps.{Step, History, world_of, run}
 use Rattle.sd_link.specs.Parts.{sends_in, got_in}
+use Rattle.sd_link.specs.Link.{IsSettledBy}
 use Rattle.sd_claims.specs.Tries.{flood_limit}
 use Rattle.sd_claims.specs.Waiting.{Waited, WaitFlooded}
 use Rattle.sd_boot_chain.specs.Client.{StaysBefore}
@@ -9,7 +10,7 @@ use Rattle.sd_boot_chain.specs.declared.pause.Pause.{Pause}
 use Rattle.sd_boot_chain.specs.declared.pause.Pause.TheVariants.{Over, Flood, Fault}
 
 abbrev pub Ended : ℕ → Pause → History → List Step → Type 0
-Ended until Over old part = (until ≤ (run old.config (world_of old) part).tick) × (length (got_in part) < flood_limit)
+Ended until Over old part = (until ≤ (run old.config (world_of old) part).tick) × (length (got_in part) < flood_limit) × IsSettledBy old part
 Ended until Flood old part = length (got_in part) ≡ flood_limit
 Ended until Fault old part = Unit {0}
 
@@ -20,6 +21,6 @@ pub record Passes (until : ℕ) (pause : Pause) (old : History) (part : List Ste
   pub ended : Ended until pause old part
 
 abbrev pub IsPause : ℕ → Pause → History → List Step → Type 0
-IsPause ticks Over old part = Waited ticks part
+IsPause ticks Over old part = Waited ticks part × IsSettledBy old part
 IsPause ticks Flood old part = WaitFlooded ticks part
 IsPause ticks Fault old part = Unit {0}

@@ -10,6 +10,7 @@ use Rattle.sd_script.specs.declared.told.Told.{Told}
 use Rattle.sd_script.specs.declared.told.Told.TheVariants.{AddrOk, AddrTimeout, AddrFlood, AddrLinkFault, WaitOk, WaitFlood, WaitLinkFault}
 use Rattle.sd_script.specs.Answers.{answer_line}
 use Rattle.sd_claims.specs.Causes.{IsCaused}
+use Rattle.sd_claims.specs.Ending.{EndsAfter}
 
 -- the answer of a command that a fault of the link ended
 abbrev pub IsFault : Told → Type 0
@@ -21,8 +22,13 @@ IsFault (AddrFlood step) = ⊥
 IsFault (WaitOk ticks) = ⊥
 IsFault (WaitFlood ticks) = ⊥
 
+-- the answer has its cause, and the command ends so
+pub record IsAnswered (command : Command) (answer : Told) (old : History) (part : List Step) : Type 0 where
+  pub caused : IsCaused old.config command answer part
+  pub ended : EndsAfter old answer part
+
 -- the answer has its cause, and where the record was drained before, the text is the new lines and the answer line
 pub record IsStep (config : ClientConfig) (command : Command) (drained text : List ℕ) (old : History) (part : List Step) : Type 0 where
   pub answer : Told
-  pub caused : IsFor old.config config → IsCaused old.config command answer part
+  pub answered : IsFor old.config config → IsAnswered command answer old part
   pub shown : drained ≡ record_text (whole_record old) → text ≡ record_text (record_of old.config (world_of old) part) ++ answer_line answer

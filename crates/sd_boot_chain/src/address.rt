@@ -4,8 +4,7 @@ ghost use Rattle.sd_outside.specs.Causes.{Rose};
 ghost use Rattle.sd_link.specs.Config.{IsFor, IsClientConfig};
 ghost use Rattle.sd_link.specs.Link.{Moves};
 ghost use Rattle.sd_claims.specs.Rarp.{told_address, rarp_request};
-ghost use Rattle.sd_claims.specs.Causes.{IsCaused};
-ghost use Rattle.sd_boot_chain.specs.Step.{IsFault};
+ghost use Rattle.sd_boot_chain.specs.Step.{IsFault, IsAnswered};
 ghost use Rattle.sd_boot_chain.specs.Client.{Hears, Tried, Lasts, StaysBefore, most_ticks};
 
 use sd_link::{ClientConfig, Link, LinkError, Stage};
@@ -113,9 +112,10 @@ pub(crate) fn own_address<L: Link>(
 ) -> Result<Told, NoMemory>
     requires { IsClientConfig config.now }
     ensures goes { Lasts most_ticks (L.told link.old) (L.told link.new) }
-    // Over a link that tells, and whose count of faults didn't rise, the answer is earned or caused by what happened.
+    // Over a link that tells, and whose count of faults didn't rise, the answer is earned or caused by what happened,
+    // and the command ends as its answer says.
     ensures caused { (Rose (L.faults link.old) (L.faults link.new) → ⊥) → IfOk result (λ answer.
-        Moves (L.told link.old) (L.told link.new) (λ old part. IsFor old.config config.now → IsCaused old.config Command.Addr answer part)) }
+        Moves (L.told link.old) (L.told link.new) (λ old part. IsFor old.config config.now → IsAnswered Command.Addr answer old part)) }
     ensures fault { IfOk result (λ answer. IsFault answer → Rose (L.faults link.old) (L.faults link.new)) }
     ensures faults { L.faults link.old ≤ L.faults link.new }
     ensures drained { L.drained link.new ≡ L.drained link.old }

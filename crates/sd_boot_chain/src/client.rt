@@ -4,9 +4,8 @@ ghost use Rattle.sd_outside.specs.Causes.{Rose};
 ghost use Rattle.sd_link.specs.Config.{IsFor, IsClientConfig};
 ghost use Rattle.sd_link.specs.Link.{Moves};
 ghost use Rattle.sd_script.specs.Rules.{IsCommand};
-ghost use Rattle.sd_claims.specs.Causes.{IsCaused};
 ghost use Rattle.sd_boot_chain.specs.Client.{Lasts, most_ticks};
-ghost use Rattle.sd_boot_chain.specs.Step.{IsFault};
+ghost use Rattle.sd_boot_chain.specs.Step.{IsFault, IsAnswered};
 
 use crate::address::own_address;
 use crate::pause::wait;
@@ -47,9 +46,10 @@ impl Client {
     pub fn step<L: Link>(&mut self, link: &mut L, command: &Command) -> Result<Told, NoMemory>
         requires { IsCommand command.now }
         ensures same { self.new ≡ self.old }
-        // Over a link that tells, and whose count of faults didn't rise, the answer is earned or caused by what happened.
+        // Over a link that tells, and whose count of faults didn't rise, the answer is earned or caused by what happened,
+        // and the command ends as its answer says.
         ensures caused { (Rose (L.faults link.old) (L.faults link.new) → ⊥) → IfOk result (λ answer.
-            Moves (L.told link.old) (L.told link.new) (λ old part. IsFor old.config self.old → IsCaused old.config command.now answer part)) }
+            Moves (L.told link.old) (L.told link.new) (λ old part. IsFor old.config self.old → IsAnswered command.now answer old part)) }
         // Whatever comes of it, a link that tells goes on telling.
         ensures lasts { Lasts most_ticks (L.told link.old) (L.told link.new) }
         ensures fault { IfOk result (λ answer. IsFault answer → Rose (L.faults link.old) (L.faults link.new)) }

@@ -2,8 +2,7 @@
 ghost use Rattle.std.specs.Prelude.{◌≡◌, ◌≤◌, IfOk, Ok};
 ghost use Rattle.sd_outside.specs.Causes.{Rose};
 ghost use Rattle.sd_link.specs.Link.{Moves};
-ghost use Rattle.sd_claims.specs.Causes.{IsCaused};
-ghost use Rattle.sd_boot_chain.specs.Step.{IsFault};
+ghost use Rattle.sd_boot_chain.specs.Step.{IsFault, IsAnswered};
 ghost use Rattle.sd_boot_chain.specs.Client.{Lasts, StaysBefore, most_ticks};
 ghost use Rattle.sd_boot_chain.specs.Pause.{Passes, IsPause};
 
@@ -59,9 +58,10 @@ fn pass_ticks<L: Link>(link: &mut L, ticks: u64) -> Result<Pause, NoMemory>
 pub(crate) fn wait<L: Link>(link: &mut L, ticks: u64) -> Result<Told, NoMemory>
     requires { ticks ≤ 100000 }
     ensures goes { Lasts most_ticks (L.told link.old) (L.told link.new) }
-    // Over a link that tells, and whose count of faults didn't rise, the answer is earned or caused by what happened.
+    // Over a link that tells, and whose count of faults didn't rise, the answer is earned or caused by what happened,
+    // and the command ends as its answer says.
     ensures caused { (Rose (L.faults link.old) (L.faults link.new) → ⊥) → IfOk result (λ answer.
-        Moves (L.told link.old) (L.told link.new) (λ old part. IsCaused old.config (Command.Wait ticks) answer part)) }
+        Moves (L.told link.old) (L.told link.new) (λ old part. IsAnswered (Command.Wait ticks) answer old part)) }
     ensures fault { IfOk result (λ answer. IsFault answer → Rose (L.faults link.old) (L.faults link.new)) }
     ensures faults { L.faults link.old ≤ L.faults link.new }
     ensures drained { L.drained link.new ≡ L.drained link.old }

@@ -1,5 +1,6 @@
 -- What `replay` writes.
-use Rattle.std.specs.Prelude.{◌≡◌, ◌⊎◌, ℕ, List, [], ◌∷◌, ◌++◌, map, take, codes, Option, Some, None}
+use Rattle.std.specs.Prelude.{◌≡◌, ◌⊎◌, ◌≤◌, ◌*◌, ℕ, List, [], ◌∷◌, ◌++◌, map, take, codes, Option, Some, None}
+use Rattle.std.specs.List.{AllByRecursion}
 use Rattle.std.specs.Fmt.{decimal}
 use Rattle.sd_outside.specs.Streams.{Gains}
 use Rattle.sd_link.specs.World.{start}
@@ -7,17 +8,35 @@ use Rattle.sd_link.specs.Events.{fates_of}
 use Rattle.sd_link.specs.Lawful.{IsLawful, IsFrontOf}
 use Rattle.sd_script.specs.declared.script.Command.{Command}
 use Rattle.sd_script.specs.declared.script.Script.{Script}
+use Rattle.sd_script.specs.declared.told.Told.{Told}
+use Rattle.sd_script.specs.declared.told.Told.TheVariants.{AddrOk, AddrTimeout, AddrFlood, AddrLinkFault, WaitOk, WaitFlood, WaitLinkFault}
 use Rattle.sd_script.specs.Grammar.{IsScript, IsFirstOutside}
 use Rattle.sd_claims.specs.Machine.{first_state, IsRun}
 use Rattle.sd_claims.specs.Transcript.{Done, transcript, AllCaused}
 use Rattle.sd_claims.specs.Session.{parts_of}
 
+-- the network loses, delays and repeats nothing, and the client waits at least two ticks for its address
+pub record IsCalm (s : Script) : Type 0 where
+  pub plain : s.events.fates ≡ []
+  pub patient : 2 ≤ s.config.tries * s.config.wait
+
+-- the command had its effect
+abbrev pub IsOk : Told → Type 0
+IsOk (AddrOk ip) = Unit {0}
+IsOk AddrTimeout = ⊥
+IsOk (AddrFlood step) = ⊥
+IsOk AddrLinkFault = ⊥
+IsOk (WaitOk shown) = Unit {0}
+IsOk (WaitFlood shown) = ⊥
+IsOk (WaitLinkFault shown) = ⊥
+
 -- These commands of the script were done so: the run is one that the network owes the script, from the start on;
--- the answers are those of the boot machine; and each is earned or caused by its part.
+-- the answers are those of the boot machine; each is earned or caused by its part; and in a calm script all are ok.
 pub record AreDone (s : Script) (commands : List Command) (done : List Done) : Type 0 where
   pub lawful : IsLawful s.config (fates_of s.events) (parts_of done)
   pub machine : IsRun s.config first_state commands (map (λ d. d.answer) done)
   pub caused : AllCaused s.config commands done
+  pub complete : IsCalm s → AllByRecursion (λ d. IsOk d.answer) done
 
 abbrev pub written : Script → List Done → List ℕ
 written s done = transcript s.config (start s.config) done

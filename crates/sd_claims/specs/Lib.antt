@@ -4,5 +4,6 @@ pub mod Rarp
 pub mod Waiting
 pub mod Causes
 pub mod Transcript
+pub mod Ending
 pub mod Session
 pub mod Headline

@@ -4,11 +4,12 @@ use Rattle.std.proofs.lemmas.List.{append-nil}
 use Rattle.sd_outside.specs.declared.packet.Packet.{Packet}
 use Rattle.sd_link.specs.declared.config.Config.{Config}
 use Rattle.sd_link.specs.World.{World, Flying, start}
-use Rattle.sd_link.specs.Steps.{Step, Tick, Send, Serve, Get, Entry, after, entries_of, run, AllAllowed, record_of, served, History, world_of, IsLawfulSoFar}
+use Rattle.sd_link.specs.Steps.{Step, Tick, Send, Serve, Get, Entry, after, entries_of, run, AllAllowed, record_of, served, History, world_of, whole_record, IsLawfulSoFar}
 use Rattle.sd_link.specs.Parts.{sends_in, got_in, ticks_in}
-use Rattle.sd_link.specs.Link.{GoesOn, Moves, TicksBefore}
-use Rattle.sd_link.specs.Events.{Fates}
-use Rattle.sd_link.specs.Lawful.{AllInTurn}
+use Rattle.sd_link.specs.Link.{GoesOn, Moves, TicksBefore, NothingWaits, IsSettledBy}
+use Rattle.sd_link.specs.declared.events.Events.{Events}
+use Rattle.sd_link.specs.Events.{Fates, fates_of}
+use Rattle.sd_link.specs.Lawful.{AllInTurn, AllGot}
 
 -- ---- lists of steps
 
@@ -94,6 +95,29 @@ world-goes a b xs goes =
     ap (λ (c : Config). run c (start c) b.steps) goes.config
     ∙ ap (λ (l : List Step). run a.config (start a.config) l) goes.steps
     ∙ run-append a.config (start a.config) a.steps xs
+
+-- the record goes on with the history
+pub record-goes : (a b : History) (xs : List Step) → GoesOn a b xs → whole_record b ≡ whole_record a ++ record_of a.config (world_of a) xs
+record-goes a b xs goes =
+    ap (λ (c : Config). record_of c (start c) b.steps) goes.config
+    ∙ ap (λ (l : List Step). record_of a.config (start a.config) l) goes.steps
+    ∙ record-append a.config (start a.config) a.steps xs
+
+-- where the history that a part leads to is settled, the part settles it
+pub settled-goes : (a b : History) (xs : List Step) → GoesOn a b xs → NothingWaits b → IsSettledBy a xs
+settled-goes a b xs goes settled =
+    subst (λ (l : List Entry). AllGot a.config (fates_of a.events) (run a.config (world_of a) xs) l) (record-goes a b xs goes)
+    (subst (λ (w : World). AllGot a.config (fates_of a.events) w (whole_record b)) (world-goes a b xs goes)
+    (subst (λ (e : Events). AllGot a.config (fates_of e) (world_of b) (whole_record b)) goes.events
+    (subst (λ (c : Config). AllGot c (fates_of b.events) (world_of b) (whole_record b)) goes.config settled)))
+
+-- and the other way round
+pub settled-there : (a b : History) (xs : List Step) → GoesOn a b xs → IsSettledBy a xs → NothingWaits b
+settled-there a b xs goes settled =
+    subst (λ (c : Config). AllGot c (fates_of b.events) (world_of b) (whole_record b)) (sym goes.config)
+    (subst (λ (e : Events). AllGot a.config (fates_of e) (world_of b) (whole_record b)) (sym goes.events)
+    (subst (λ (w : World). AllGot a.config (fates_of a.events) w (whole_record b)) (sym (world-goes a b xs goes))
+    (subst (λ (l : List Entry). AllGot a.config (fates_of a.events) (run a.config (world_of a) xs) l) (sym (record-goes a b xs goes)) settled)))
 
 -- ---- what links tell
 

@@ -6,7 +6,7 @@ use Rattle.sd_outside.specs.declared.packet.Packet.{Packet}
 use Rattle.sd_link.specs.declared.config.Config.{Config}
 use Rattle.sd_link.specs.Events.{Fates}
 use Rattle.sd_link.specs.World.{World, Flying, Sender, start}
-use Rattle.sd_link.specs.Steps.{Step, Tick, Send, Serve, Get, Entry, Sent, Served, Got, after, entries_of, AllAllowed, goes_to_server, goes_to_client}
+use Rattle.sd_link.specs.Steps.{Step, Tick, Send, Serve, Get, Entry, Sent, Served, Got, after, entries_of, run, record_of, AllAllowed, goes_to_server, goes_to_client}
 
 -- the front is where the whole begins
 abbrev pub IsFrontOf : {A : Type 0} → List A → List A → Type 0
@@ -46,6 +46,22 @@ AllServed c fates w entries = served_at w.tick entries ≡ due_to_server c fates
 
 abbrev pub AllGot : Config → Fates → World → List Entry → Type 0
 AllGot c fates w entries = got_at w.tick entries ≡ due_to_client c fates w
+
+-- all that is due to the client has come to it at the end of these steps
+abbrev pub Settles : Config → Fates → World → List Entry → List Step → Type 0
+Settles c fates w entries steps = AllGot c fates (run c w steps) (entries ++ record_of c w steps)
+
+-- the client sends only where all that is due to it has come
+abbrev pub SendsSettled : Config → Fates → World → List Entry → List Step → Type 0
+SendsSettled c fates w entries [] = Unit {0}
+SendsSettled c fates w entries (Tick ∷ steps) = SendsSettled c fates (after c w Tick) (entries ++ entries_of c w Tick) steps
+SendsSettled c fates w entries (Send packet ∷ steps) = AllGot c fates w entries × SendsSettled c fates (after c w (Send packet)) (entries ++ entries_of c w (Send packet)) steps
+SendsSettled c fates w entries (Serve id ∷ steps) = SendsSettled c fates (after c w (Serve id)) (entries ++ entries_of c w (Serve id)) steps
+SendsSettled c fates w entries (Get id packet ∷ steps) = SendsSettled c fates (after c w (Get id packet)) (entries ++ entries_of c w (Get id packet)) steps
+
+-- the last step is one in which the client gets a packet
+abbrev pub EndsWithGet : List Step → Type 0
+EndsWithGet steps = (before : List Step) × (id : ℕ) × (packet : Packet) × (steps ≡ before ++ Get id packet ∷ [])
 
 -- Whether it is the turn of a step, after the record so far.
 abbrev pub InTurn : Config → Fates → World → List Entry → Step → Type 0

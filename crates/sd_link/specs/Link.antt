@@ -6,7 +6,9 @@ use Rattle.sd_link.specs.declared.link.LinkError.{LinkError}
 use Rattle.sd_link.specs.declared.link.LinkError.TheVariants.{Failed, NoMemory}
 use Rattle.sd_link.specs.declared.config.Config.{Config}
 use Rattle.sd_link.specs.World.{World}
-use Rattle.sd_link.specs.Steps.{Step, Tick, Send, Serve, Get, History, after, run, world_of, IsLawfulSoFar}
+use Rattle.sd_link.specs.Events.{fates_of}
+use Rattle.sd_link.specs.Lawful.{AllGot, Settles}
+use Rattle.sd_link.specs.Steps.{Step, Tick, Send, Serve, Get, History, after, run, world_of, whole_record, IsLawfulSoFar}
 use Rattle.sd_link.specs.Parts.{sends_in, got_in}
 
 -- The history goes on by this part, whose steps may all happen, under the same configuration and events.
@@ -49,10 +51,19 @@ TicksBefore until c w (Send packet ∷ steps) = TicksBefore until c (after c w (
 TicksBefore until c w (Serve id ∷ steps) = TicksBefore until c (after c w (Serve id)) steps
 TicksBefore until c w (Get id packet ∷ steps) = TicksBefore until c (after c w (Get id packet)) steps
 
--- What came of the waiting: a packet is got by the last step alone, and none where none is handed out.
+-- nothing that is due to the client still waits
+abbrev pub NothingWaits : History → Type 0
+NothingWaits h = AllGot h.config (fates_of h.events) (world_of h) (whole_record h)
+
+-- and so it is after this part
+abbrev pub IsSettledBy : History → List Step → Type 0
+IsSettledBy old part = Settles old.config (fates_of old.events) (world_of old) (whole_record old) part
+
+-- What came of the waiting: a packet is got by the last step alone. None is got where none is handed out, and then the
+-- tick is reached and nothing that is due still waits.
 abbrev pub Hands : ℕ → Result (Option Packet) LinkError → History → List Step → Type 0
 Hands until (Ok (Some packet)) old part = (before : List Step) × (id : ℕ) × (part ≡ before ++ Get id packet ∷ []) × (got_in before ≡ [])
-Hands until (Ok None) old part = (got_in part ≡ []) × (until ≤ (run old.config (world_of old) part).tick)
+Hands until (Ok None) old part = (got_in part ≡ []) × (until ≤ (run old.config (world_of old) part).tick) × IsSettledBy old part
 Hands until (Err why) old part = got_in part ≡ []
 
 -- a wait until this tick: the client sends nothing, and no tick passes from then on

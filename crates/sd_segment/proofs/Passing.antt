@@ -10,9 +10,9 @@ use Rattle.sd_link.specs.declared.events.Fate.{Fate}
 use Rattle.sd_link.specs.Events.{fates_of, fate_in}
 use Rattle.sd_link.specs.World.{World, Sender, start}
 use Rattle.sd_link.specs.Reply.{out_of}
-use Rattle.sd_link.specs.Steps.{Step, Tick, Send, Serve, Get, goes_to_server, goes_to_client, whole_record}
-use Rattle.sd_link.specs.Lawful.{served_at, got_at, due_to_server, due_to_client, IsFrontOf}
-use Rattle.sd_link.specs.Link.{last_tick, IsBounded}
+use Rattle.sd_link.specs.Steps.{Step, Tick, Send, Serve, Get, Entry, goes_to_server, goes_to_client, world_of, whole_record}
+use Rattle.sd_link.specs.Lawful.{served_at, got_at, due_to_server, due_to_client, AllGot, IsFrontOf}
+use Rattle.sd_link.specs.Link.{last_tick, IsBounded, NothingWaits}
 use Rattle.sd_link.specs.Text.{record_text}
 use Rattle.sd_segment.specs.declared.flown.Origin.TheVariants as origin
 use Rattle.sd_segment.specs.declared.flown.Flown.{Flown}
@@ -38,6 +38,18 @@ bounded_of s i = record {
   tick = omega (arith, i.tick, ap (λ (w : World). w.tick) i.keeps.world);
   ids = omega (arith, i.ids, ap (λ (w : World). length w.flight) i.keeps.world, length-map s.flight flying_of);
 }
+
+-- where nothing is still to come to the client, all that is due to it has come
+pub settled_of : (s : SegmentView) → IsSound s → s.to_client ≡ [] → NothingWaits (history_of s)
+settled_of s i none =
+    let fates = fates_of s.events in
+    let h = history_of s in
+    let entries = entries_kept s.flight s.kept in
+    let there = world_at s.config s.flight s.tick in
+    let all : AllGot s.config fates there entries =
+    sym (append-nil (got_at s.tick entries)) ∙ ap (λ (l : List ℕ). got_at s.tick entries ++ l) (sym none) ∙ i.turns.client in
+    subst (λ (w : World). AllGot s.config fates w (whole_record h)) (sym i.keeps.world)
+    (subst (λ (l : List Entry). AllGot s.config fates there l) (sym i.keeps.entries) all)
 
 pub drained_front : (s : SegmentView) → IsSound s → IsFrontOf (text_drained s) (record_text (whole_record (history_of s)))
 drained_front s i = (record_text (entries_kept s.flight (drop s.drained s.kept)), sym (all_lines s.flight s.kept s.drained) ∙ ap record_text (sym i.keeps.entries))

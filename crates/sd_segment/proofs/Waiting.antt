@@ -8,8 +8,8 @@ use Rattle.sd_link.specs.declared.link.LinkError.{LinkError}
 use Rattle.sd_link.specs.World.{World}
 use Rattle.sd_link.specs.Steps.{Step, Tick, Send, Serve, Get, after, run, world_of}
 use Rattle.sd_link.specs.Parts.{sends_in, got_in}
-use Rattle.sd_link.specs.Link.{GoesOn, Moves, TicksBefore, Receives, IsBounded}
-use Rattle.sd_link.proofs.Histories.{sends-append, got-append, before-append, world-goes, goes_nowhere}
+use Rattle.sd_link.specs.Link.{GoesOn, Moves, TicksBefore, Receives, IsBounded, NothingWaits}
+use Rattle.sd_link.proofs.Histories.{sends-append, got-append, before-append, world-goes, goes_nowhere, settled-goes}
 use Rattle.sd_segment.specs.Segment.{SegmentView, history_of, text_drained}
 use Rattle.sd_segment.specs.Passing.{Passes, WentOn, AllServes, Advances, Waits}
 
@@ -153,15 +153,19 @@ receives_packet until old mid new part id packet w p = (
   },
 )
 
-pub receives_none : (until : ℕ) (old mid : SegmentView) (part : List Step) → Waits until old mid part → (world_of (history_of mid)).tick ≡ mid.tick → until ≤ mid.tick
+pub receives_none : (until : ℕ) (old mid : SegmentView) (part : List Step) → Waits until old mid part → (world_of (history_of mid)).tick ≡ mid.tick → until ≤ mid.tick → NothingWaits (history_of mid)
     → Moves (Some (history_of old)) (Some (history_of mid)) (Receives until (Ok None))
-receives_none until old mid part w stood reached = (
+receives_none until old mid part w stood reached settled = (
   part,
   went_goes old mid part w.went,
   record {
     silent = w.silent;
     ticks = w.ticks;
-    hands = (w.got, omega (arith, stood, ap (λ (v : World). v.tick) (world-goes (history_of old) (history_of mid) part (went_goes old mid part w.went))));
+    hands = (
+      w.got,
+      omega (arith, stood, ap (λ (v : World). v.tick) (world-goes (history_of old) (history_of mid) part (went_goes old mid part w.went))),
+      settled-goes (history_of old) (history_of mid) part (went_goes old mid part w.went) settled,
+    );
   },
 )
 

@@ -2,7 +2,7 @@
 ghost use Rattle.std.specs.Prelude.{◌≡◌, ◌⊎◌, ◌≤◌, [], IsTrue, IsFalse};
 ghost use Rattle.sd_link.specs.Events.{fates_of, IsEvents};
 ghost use Rattle.sd_link.specs.Lawful.{IsLawful, IsFrontOf};
-ghost use Rattle.sd_link.specs.Link.{last_tick, IsBounded};
+ghost use Rattle.sd_link.specs.Link.{last_tick, IsBounded, NothingWaits};
 ghost use Rattle.sd_link.specs.Steps.{world_of, whole_record};
 ghost use Rattle.sd_link.specs.Text.{record_text};
 ghost use Rattle.sd_segment.specs.Segment.{history_of, text_drained};
@@ -101,6 +101,8 @@ impl Segment {
         ensures stood { (world_of (history_of self.now)).tick ≡ self.now.tick }
         ensures bound { result ≤ last_tick }
         ensures bounded { IsBounded (history_of self.now) }
+        // Where nothing is still to come to the client, all that is due to it has come.
+        ensures settled { self.now.to_client ≡ [] → NothingWaits (history_of self.now) }
     {
         self.tick
     }

@@ -1,7 +1,10 @@
-use Rattle.std.proofs.Common.{◌≡◌, ◌≤◌, ◌∙◌, ap, sym, subst}
+use Rattle.std.proofs.Common.{◌≡◌, ◌⊎◌, ℕ, ◌≤◌, List, ◌∙◌, ap, sym, subst}
+use Rattle.std.specs.Prelude.{IfSome}
+use Rattle.sd_script.specs.declared.script.Script.{Script}
+use Rattle.sd_script.specs.Grammar.{IsScript}
 use Rattle.sd_boot.specs.declared.status.Status.{Status}
 use Rattle.sd_boot.specs.declared.words.Program.TheVariants.{Replay, Show, Pack}
-use Rattle.sd_boot.proofs.Performing.{done_by, refused_by, cut_by, no_row}
+use Rattle.sd_boot.proofs.Performing.{done_by, refused_by, cut_by, complete_by, no_row}
 use Rattle.sd_boot.proofs.programs.run.Goals as goal
 
 pub returns-in-Some-clause-transcript : goal.returns-in-Some-clause-transcript
@@ -60,3 +63,13 @@ returns-in-None-clause-pack_front g c = λ words status. absurd (c.in-None.ensur
 
 pub returns-in-None-clause-known : goal.returns-in-None-clause-known
 returns-in-None-clause-known g c = λ row status. no_row c.args.words.now c.in-None.ensures row
+
+pub returns-in-None-clause-complete : goal.returns-in-None-clause-complete
+returns-in-None-clause-complete g c = λ words calm_source calm_sink. absurd (c.in-None.ensures Replay words)
+
+pub returns-in-Some-clause-complete : goal.returns-in-Some-clause-complete
+returns-in-Some-clause-complete g c = λ words calm_source calm_sink.
+    subst (λ (s : Status). IfSome (g.S.Source.left c.args.source.now) (λ text. (script : Script) → IsScript text script → (s.0 ≡ 0) ⊎ (s.0 ≡ 5))) (sym c.status_of.ensures)
+    (complete_by c.in-Some.program c.args.words.now c.perform.result (g.S.Source.left c.args.source.now) (g.K.Sink.written c.args.sink.now) (g.K.Sink.written c.perform.new.sink)
+    (g.S.Source.faults c.args.source.now) (g.S.Source.faults c.perform.new.source) (g.K.Sink.faults c.args.sink.now) (g.K.Sink.faults c.perform.new.sink)
+    words c.in-Some.ensures c.perform.ensures.told c.perform.ensures.read c.perform.ensures.write calm_source calm_sink)

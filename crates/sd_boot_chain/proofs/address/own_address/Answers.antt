@@ -3,12 +3,16 @@ use Rattle.sd_outside.specs.declared.packet.Mac.{Mac}
 use Rattle.sd_link.specs.Config.{IsFor}
 use Rattle.sd_link.specs.Steps.{Step, History}
 use Rattle.sd_link.proofs.Histories.{moves_not, moves_then, moves_weaker}
+use Rattle.sd_link.specs.declared.link.Stage.TheVariants as stage
+use Rattle.sd_script.specs.declared.script.Command.TheVariants.{Addr}
+use Rattle.sd_script.specs.declared.told.Told.TheVariants.{AddrOk, AddrTimeout, AddrFlood}
 use Rattle.sd_claims.specs.Tries.{Answered, Flooded, TimedOut}
 use Rattle.sd_claims.specs.Rarp.{told_address, rarp_request}
 use Rattle.sd_boot_chain.specs.declared.address.Heard.TheVariants.{Address, Nothing, Flood}
 use Rattle.sd_boot_chain.specs.Client.{Tried, Lasts, most_ticks}
+use Rattle.sd_boot_chain.specs.Step.{IsAnswered}
 use Rattle.sd_boot_chain.proofs.Lasting.{lasts_none, lasts_then, lasts_more}
-use Rattle.sd_boot_chain.proofs.Trying.{Vain, vain_none, vain_more, earned, flooded, timed_out, as_config, heard_is}
+use Rattle.sd_boot_chain.proofs.Trying.{Vain, vain_none, vain_more, earned, earned_ends, flooded, flooded_ends, timed_out, as_config, heard_is}
 use Rattle.sd_boot_chain.proofs.address.own_address.Goals as goal
 
 pub loop-count-init : goal.loop-count-init
@@ -46,9 +50,13 @@ returns-in-Address-clause-caused g c = λ quiet.
     let ip = c.in-Address.ip in
     let asked = heard_is _ _ _ request config.mac config.wait _ (Address ip) c.loop-count.invariant.request c.in-Address.is c.in_ok-ip.ensures.told in
     moves_then _ _ _ (Vain request config.mac config.wait c.loop-count.count) (Tried request config.mac config.wait (Address ip))
-    (λ old part. IsFor old.config config → Answered (rarp_request old.config.client.mac) (told_address old.config.client.mac) old.config.tries old.config.wait ip part)
-    (λ a b xs ys goes v t is_for. as_config a.config config (λ m tries wait. Answered (rarp_request m) (told_address m) tries wait ip (xs ++ ys)) is_for
-    (earned request config.mac config.wait c.loop-count.count a b xs ys v config.tries ip c.loop-count-test.true t))
+    (λ old part. IsFor old.config config → IsAnswered Addr (AddrOk ip) old part)
+    (λ a b xs ys goes v t is_for. record {
+      caused =
+          as_config a.config config (λ m tries wait. Answered (rarp_request m) (told_address m) tries wait ip (xs ++ ys)) is_for
+          (earned request config.mac config.wait c.loop-count.count a b xs ys goes v config.tries ip c.loop-count-test.true t);
+      ended = earned_ends request config.mac config.wait c.loop-count.count a b xs ys goes v ip t;
+    })
     c.loop-count.invariant.moves asked
 
 pub returns-in-Flood-clause-caused : goal.returns-in-Flood-clause-caused
@@ -57,9 +65,13 @@ returns-in-Flood-clause-caused g c = λ quiet.
     let request = rarp_request config.mac in
     let asked = heard_is _ _ _ request config.mac config.wait _ Flood c.loop-count.invariant.request c.in-Flood.is c.in_ok-ip.ensures.told in
     moves_then _ _ _ (Vain request config.mac config.wait c.loop-count.count) (Tried request config.mac config.wait Flood)
-    (λ old part. IsFor old.config config → Flooded (rarp_request old.config.client.mac) (told_address old.config.client.mac) old.config.tries old.config.wait part)
-    (λ a b xs ys goes v t is_for. as_config a.config config (λ m tries wait. Flooded (rarp_request m) (told_address m) tries wait (xs ++ ys)) is_for
-    (flooded request config.mac config.wait c.loop-count.count a b xs ys v config.tries c.loop-count-test.true t))
+    (λ old part. IsFor old.config config → IsAnswered Addr (AddrFlood stage.Rarp) old part)
+    (λ a b xs ys goes v t is_for. record {
+      caused =
+          as_config a.config config (λ m tries wait. Flooded (rarp_request m) (told_address m) tries wait (xs ++ ys)) is_for
+          (flooded request config.mac config.wait c.loop-count.count a b xs ys goes v config.tries c.loop-count-test.true t);
+      ended = flooded_ends request config.mac config.wait c.loop-count.count a b xs ys goes v stage.Rarp t;
+    })
     c.loop-count.invariant.moves asked
 
 pub loop-count-preserved : goal.loop-count-preserved
@@ -71,7 +83,7 @@ loop-count-preserved g c =
       moves =
           moves_then _ _ _ (Vain request config.mac config.wait c.loop-count.count) (Tried request config.mac config.wait Nothing)
           (Vain request config.mac config.wait (c.loop-count.count + 1))
-          (λ a b xs ys goes v t. vain_more request config.mac config.wait c.loop-count.count a b xs ys v t)
+          (λ a b xs ys goes v t. vain_more request config.mac config.wait c.loop-count.count a b xs ys goes v t)
           c.loop-count.invariant.moves asked;
       lasts = lasts_then _ _ _ (c.loop-count.count * 1000) 1000 ((c.loop-count.count + 1) * 1000) (omega arith) c.loop-count.invariant.lasts c.ask.ensures.goes;
       request = c.loop-count.invariant.request;
@@ -85,7 +97,11 @@ returns-clause-caused g c = λ quiet.
     let request = rarp_request config.mac in
     let all : c.loop-count.count ≡ config.tries = omega arith in
     moves_weaker _ _ (Vain request config.mac config.wait c.loop-count.count)
-    (λ old part. IsFor old.config config → TimedOut (rarp_request old.config.client.mac) (told_address old.config.client.mac) old.config.tries old.config.wait part)
-    (λ h part v is_for. as_config h.config config (λ m tries wait. TimedOut (rarp_request m) (told_address m) tries wait part) is_for
-    (timed_out request config.mac config.wait config.tries h part (subst (λ n. Vain request config.mac config.wait n h part) all v)))
+    (λ old part. IsFor old.config config → IsAnswered Addr AddrTimeout old part)
+    (λ h part v is_for. record {
+      caused =
+          as_config h.config config (λ m tries wait. TimedOut (rarp_request m) (told_address m) tries wait part) is_for
+          (timed_out request config.mac config.wait config.tries h part (subst (λ n. Vain request config.mac config.wait n h part) all v));
+      ended = v.patient;
+    })
     c.loop-count.invariant.moves

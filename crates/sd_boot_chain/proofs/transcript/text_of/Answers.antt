@@ -4,7 +4,7 @@ use Rattle.sd_link.specs.Config.{IsFor}
 use Rattle.sd_link.specs.Steps.{History}
 use Rattle.sd_link.specs.Link.{Moves, Drains}
 use Rattle.sd_script.specs.Answers.{answer_line}
-use Rattle.sd_claims.specs.Causes.{IsCaused}
+use Rattle.sd_boot_chain.specs.Step.{IsAnswered}
 use Rattle.sd_boot_chain.proofs.Stepping.{is_step}
 use Rattle.sd_boot_chain.proofs.transcript.text_of.Goals as goal
 
@@ -15,7 +15,7 @@ returns-clause-done g c = λ quiet.
     let answer = c.in_ok-answer.answer in
     let before = g.L.Link.told c.args.link.now in
     let answered = c.in_ok-answer.ensures.caused (λ rose. quiet (subst (λ (n : ℕ). Rose (g.L.Link.faults c.args.link.now) n) (sym c.drain.ensures.faults) rose)) in
-    let moved = subst (λ (o : Option History). Moves before o (λ old part. IsFor old.config config → IsCaused old.config command answer part)) (sym c.drain.ensures.told) answered in
+    let moved = subst (λ (o : Option History). Moves before o (λ old part. IsFor old.config config → IsAnswered command answer old part)) (sym c.drain.ensures.told) answered in
     let drains = subst (λ (l : List ℕ). Drains (g.L.Link.drained c.args.link.now) (g.L.Link.drained c.drain.new.self) l c.drain.new.text) c.empty-text.ensures
     (subst (λ (l : List ℕ). Drains l (g.L.Link.drained c.drain.new.self) c.empty-text.result c.drain.new.text) c.step.ensures.drained c.in_ok-drain.ensures.text) in
     is_step before (g.L.Link.told c.drain.new.self) config command answer (g.L.Link.drained c.args.link.now) (g.L.Link.drained c.drain.new.self) drains.0 c.write_answer.new.text

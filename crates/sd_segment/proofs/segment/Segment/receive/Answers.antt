@@ -23,6 +23,7 @@ returns-then-tick-until-clause-told c =
     let h = subst (λ (o : Option Packet). HandsOut c.waiting.self c.hand_out.new.self o) c.in-Ok-None.field-0-is c.in-Ok-None.ensures.got in
     let v = still_waits c.args.until c.args.self.now c.waiting.self c.hand_out.new.self w.0 h w.1 in
     receives_none c.args.until c.args.self.now c.hand_out.new.self w.0 v c.tick-tick.ensures.stood (omega (arith, c.if-tick-until.true, c.tick-tick.ensures.value))
+    (c.tick-tick.ensures.settled h.1)
 
 pub returns-in-Err-advance-clause-told : goal.returns-in-Err-advance-clause-told
 returns-in-Err-advance-clause-told c =

@@ -1,0 +1,227 @@
+-- In a calm script each command is ok.
+use Rattle.std.proofs.Common.{◌≡◌, ℕ, ◌+◌, ◌*◌, ◌==◌, ◌<◌, ◌≤◌, Bool, true, false, cond, List, [], ◌∷◌, ◌++◌, length, Option, Some, None, refl, sym, ◌∙◌, ap, subst, arith, append_assoc, length-append}
+use Rattle.std.proofs.lemmas.List.{append-nil}
+use Rattle.std.specs.List.{flat_map, AllByRecursion}
+use Rattle.sd_outside.specs.declared.packet.Packet.{Packet}
+use Rattle.sd_link.specs.declared.config.Config.{Config}
+use Rattle.sd_link.specs.declared.events.Fate.{Fate}
+use Rattle.sd_link.specs.declared.link.Stage.TheVariants as stage
+use Rattle.sd_link.specs.Config.{IsConfig}
+use Rattle.sd_link.specs.Events.{Fates, fates_of, fate_in}
+use Rattle.sd_link.specs.World.{World, start}
+use Rattle.sd_link.specs.Steps.{Step, Tick, Send, Serve, Get, Entry, Sent, Served, Got, after, entries_of, run, record_of, AllAllowed, goes_to_client}
+use Rattle.sd_link.specs.Parts.{sends_in, got_in, ticks_in}
+use Rattle.sd_link.specs.Lawful.{IsLawful, AllInTurn, InTurn, AllGot, Settles, SendsSettled, EndsWithGet, IsFrontOf, got_at, due_to_client}
+use Rattle.sd_link.proofs.Histories.{run-append, record-append, sends-append, got-append, ticks-append}
+use Rattle.sd_script.specs.declared.script.Script.{Script}
+use Rattle.sd_script.specs.declared.script.Command.{Command}
+use Rattle.sd_script.specs.declared.script.Command.TheVariants.{Addr, Wait}
+use Rattle.sd_script.specs.declared.told.Told.{Told}
+use Rattle.sd_script.specs.declared.told.Told.TheVariants.{AddrOk, AddrTimeout, AddrFlood, AddrLinkFault, WaitOk, WaitFlood, WaitLinkFault}
+use Rattle.sd_claims.specs.Tries.{first_match, or_else, flood_limit, Answered, Flooded, TimedOut}
+use Rattle.sd_claims.specs.Rarp.{rarp_request, told_address}
+use Rattle.sd_claims.specs.Causes.{IsCaused}
+use Rattle.sd_claims.specs.Transcript.{Done, AllCaused}
+use Rattle.sd_claims.specs.Ending.{Ends, AllEnd}
+use Rattle.sd_claims.specs.Session.{parts_of}
+use Rattle.sd_claims.specs.Headline.{IsCalm, IsOk}
+use Rattle.sd_boot_chain.proofs.Settling.{silent-settled}
+use Rattle.sd_boot.proofs.Honest.{allowed-split}
+use Rattle.sd_boot.proofs.Stages.{Stages, AllGo, Rests, pause_few, pause_rests, Spaced, spaced_tries, thin_first, tries_rest, reply_waits}
+use Rattle.sd_boot.proofs.Following.{plain, request_of, reply_of, tells, Stands, stands_start, none_waits, due_length, Followed, follow}
+
+in_turn-split : (c : Config) (fates : Fates) (w : World) (entries : List Entry) (xs ys : List Step) → AllInTurn c fates w entries (xs ++ ys)
+    → AllInTurn c fates w entries xs × AllInTurn c fates (run c w xs) (entries ++ record_of c w xs) ys
+in_turn-split c fates w entries [] ys all = (tt, subst (λ (l : List Entry). AllInTurn c fates w l ys) (sym (append-nil entries)) all)
+in_turn-split c fates w entries (x ∷ xs) ys all =
+    let s = in_turn-split c fates (after c w x) (entries ++ entries_of c w x) xs ys all.1 in
+    ((all.0, s.0), subst (λ (l : List Entry). AllInTurn c fates (run c (after c w x) xs) l ys) (append_assoc entries (entries_of c w x) (record_of c (after c w x) xs)) s.1)
+
+got-then : (t : ℕ) (xs : List Entry) (id : ℕ) → got_at t (xs ++ Got t id ∷ []) ≡ got_at t xs ++ id ∷ []
+got-then t [] id = let now : (t == t) ≡ true = grind arith in ap (λ (b : Bool). cond b (id ∷ []) []) now
+got-then t (Sent u i p ∷ xs) id = got-then t xs id
+got-then t (Served u i ∷ xs) id = got-then t xs id
+got-then t (Got u i ∷ xs) id = of (u == t) (got-then t xs id)
+  where
+    of : (b : Bool) → got_at t (xs ++ Got t id ∷ []) ≡ got_at t xs ++ id ∷ []
+        → cond b (i ∷ got_at t (xs ++ Got t id ∷ [])) (got_at t (xs ++ Got t id ∷ [])) ≡ cond b (i ∷ got_at t xs) (got_at t xs) ++ id ∷ []
+    of true so = ap (λ (l : List ℕ). i ∷ l) so
+    of false so = so
+
+-- a front that is as long is the whole
+whole_front : (front due : List ℕ) → IsFrontOf front due → length front ≡ length due → front ≡ due
+whole_front front due ([], is) wide = sym (append-nil front) ∙ is
+whole_front front due (x ∷ rest, is) wide = absurd (omega (arith, wide, ap length is, length-append front (x ∷ rest)))
+
+-- ---- tries
+
+-- the client sends nothing but the request
+asks_only : (request : Packet) (rests : List (List Step)) → AllByRecursion (λ rest. sends_in rest ≡ []) rests → AllByRecursion (λ p. p ≡ request) (sends_in (flat_map (λ rest. Send request ∷ rest) rests))
+asks_only request [] silent = tt
+asks_only request (rest ∷ rests) silent =
+    let more = flat_map (λ r. Send request ∷ r) rests in
+    (refl, subst (λ (l : List Packet). AllByRecursion (λ p. p ≡ request) l) (sym (sends-append rest more ∙ ap (λ (l : List Packet). l ++ sends_in more) silent.0)) (asks_only request rests silent.1))
+
+-- what the last try got is among all that was got
+last_within : (request : Packet) (before : List (List Step)) (last : List Step) → length (got_in last) ≤ length (got_in (flat_map (λ rest. Send request ∷ rest) (before ++ last ∷ [])))
+last_within request [] last = let same = ap (λ (l : List Step). length (got_in l)) (append-nil last) in omega (arith, same)
+last_within request (rest ∷ rests) last =
+    let more = flat_map (λ r. Send request ∷ r) (rests ++ last ∷ []) in
+    omega (arith, ap length (got-append rest more), length-append (got_in rest) (got_in more), last_within request rests last)
+
+-- all tries together begin with a send and last at least two ticks
+lasting : (request : Packet) (tries wait : ℕ) (rests : List (List Step)) → 1 ≤ tries → 1 ≤ wait → 2 ≤ tries * wait → length rests ≡ tries → AllByRecursion (λ rest. ticks_in rest ≡ wait) rests
+    → (rest : List Step) × (flat_map (λ r. Send request ∷ r) rests ≡ Send request ∷ rest) × (2 ≤ ticks_in rest)
+lasting request tries wait [] some least two all waited = absurd (omega (arith, all))
+lasting request tries wait (r ∷ []) some least two all waited =
+    let once : 2 ≤ 1 * wait = subst (λ (n : ℕ). 2 ≤ n * wait) (sym all) two in
+    (r ++ [], refl, omega (arith, once, waited.0, ap ticks_in (append-nil r)))
+lasting request tries wait (r ∷ q ∷ rests) some least two all waited =
+    let more = flat_map (λ r. Send request ∷ r) rests in
+    (r ++ (Send request ∷ (q ++ more)), refl, omega (arith, ticks-append r (Send request ∷ (q ++ more)), ticks-append q more, waited.0, waited.1.0))
+
+module _ (c : Config) (is : IsConfig c) where
+  -- each reply matches
+  unmatched-none : (packets : List Packet) → AllByRecursion (λ p. p ≡ reply_of c) packets → first_match (told_address c.client.mac) packets ≡ None → packets ≡ []
+  unmatched-none [] all none = refl
+  unmatched-none (p ∷ ps) all none =
+      let told : told_address c.client.mac p ≡ Some c.client.ip = ap (told_address c.client.mac) all.0 ∙ tells c is in
+      let first : first_match (told_address c.client.mac) (p ∷ ps) ≡ Some c.client.ip = ap (λ (o : Option ℕ). or_else o (first_match (told_address c.client.mac) ps)) told in
+      absurd cc
+
+  -- where the last step brought the last that was due, nothing waits
+  last_here : (w : World) (entries : List Entry) (t : Stages) (id : ℕ) (packet : Packet) → InTurn c plain w entries (Get id packet) → Stands c is w (entries ++ Got w.tick id ∷ []) t → t.waiting ≡ 0
+      → AllGot c plain w (entries ++ Got w.tick id ∷ [])
+  last_here w entries t id packet turn at none =
+      let now = got-then w.tick entries id in
+      whole_front (got_at w.tick (entries ++ Got w.tick id ∷ [])) (due_to_client c plain w)
+      (subst (λ (l : List ℕ). IsFrontOf l (due_to_client c plain w)) (sym now) turn.1)
+      (omega (arith, at.waiting, none, due_length (goes_to_client c) w.tick w.flight))
+
+  last_settles : (w : World) (entries : List Entry) (t : Stages) (steps : List Step) (id : ℕ) (packet : Packet) → AllInTurn c plain w entries (steps ++ Get id packet ∷ [])
+      → Stands c is (run c w (steps ++ Get id packet ∷ [])) (entries ++ record_of c w (steps ++ Get id packet ∷ [])) t → t.waiting ≡ 0 → Settles c plain w entries (steps ++ Get id packet ∷ [])
+  last_settles w entries t steps id packet turns at none =
+      let last = Get id packet ∷ [] in
+      let v = run c w steps in
+      let so_far = entries ++ record_of c w steps in
+      let there : run c w (steps ++ last) ≡ v = run-append c w steps last in
+      let lines : entries ++ record_of c w (steps ++ last) ≡ so_far ++ Got v.tick id ∷ [] =
+      ap (λ (l : List Entry). entries ++ l) (record-append c w steps last) ∙ sym (append_assoc entries (record_of c w steps) (Got v.tick id ∷ [])) in
+      let at_there = subst (λ (u : World). Stands c is u (so_far ++ Got v.tick id ∷ []) t) there (subst (λ (l : List Entry). Stands c is (run c w (steps ++ last)) l t) lines at) in
+      let s = in_turn-split c plain w entries steps last turns in
+      subst (λ (u : World). AllGot c plain u (entries ++ record_of c w (steps ++ last))) (sym there)
+      (subst (λ (l : List Entry). AllGot c plain v l) (sym lines) (last_here v so_far t id packet s.1.0 at_there none))
+
+  -- ---- one command
+
+  -- the command is ok, and all rests again
+  record Next (w : World) (entries : List Entry) (d : Done) : Type 0 where
+    pub ok : IsOk d.answer
+    pub t : Stages
+    pub stands : Stands c is (run c w d.part) (entries ++ record_of c w d.part) t
+    pub rests : Rests t
+    pub settled : Settles c plain w entries d.part
+
+  module _ (patient : 2 ≤ c.tries * c.wait) (w : World) (entries : List Entry) (s : Stages) (part : List Step) (at : Stands c is w entries s) (rests : Rests s) (settled : AllGot c plain w entries) (allowed : AllAllowed c w part) (turns : AllInTurn c plain w entries part) where
+    follow_silent : sends_in part ≡ [] → Followed c is w entries s part
+    follow_silent silent =
+        follow c is w entries s part at allowed turns (silent-settled c plain w entries part silent) (subst (λ (l : List Packet). AllByRecursion (λ p. p ≡ request_of c) l) (sym silent) tt)
+
+    follow_tries : (rests : List (List Step)) → part ≡ flat_map (λ rest. Send (request_of c) ∷ rest) rests → AllByRecursion (λ rest. sends_in rest ≡ []) rests → SendsSettled c plain w entries part
+        → Followed c is w entries s part
+    follow_tries rests cut silent sends =
+        follow c is w entries s part at allowed turns sends (subst (λ (l : List Step). AllByRecursion (λ p. p ≡ request_of c) (sends_in l)) (sym cut) (asks_only (request_of c) rests silent))
+
+    address_next : (ip : ℕ) → IsCaused c Addr (AddrOk ip) part → Ends c plain w entries (AddrOk ip) part → Next w entries (record { part = part; answer = AddrOk ip })
+    address_next ip caused ended =
+        let asks = caused.asks in
+        let f = follow_tries (asks.before ++ asks.last ∷ []) asks.is.cut asks.is.silent (ended.1 settled) in
+        let last = ended.0 in
+        let spaced = subst (λ (l : List Step). Spaced 0 l) (sym asks.is.cut) (spaced_tries (request_of c) c.wait asks.before asks.last is.wait.0 asks.is.silent asks.vain.waited) in
+        let again = tries_rest 0 s f.t last.0 last.1 last.2 (thin_first s rests) (subst (λ (l : List Step). Spaced 0 l) last.3 spaced) (subst (λ (l : List Step). AllGo s l f.t) last.3 f.goes) in
+        record {
+          ok = tt;
+          t = f.t;
+          stands = f.stands;
+          rests = again;
+          settled =
+              subst (λ (l : List Step). Settles c plain w entries l) (sym last.3)
+              (last_settles w entries f.t last.0 last.1 last.2 (subst (λ (l : List Step). AllInTurn c plain w entries l) last.3 turns)
+              (subst (λ (l : List Step). Stands c is (run c w l) (entries ++ record_of c w l) f.t) last.3 f.stands) again.none_waits);
+        }
+
+    no_timeout : IsCaused c Addr AddrTimeout part → Ends c plain w entries AddrTimeout part → ⊥
+    no_timeout caused ended =
+        let ends = ended settled in
+        let f = follow_tries caused.rests caused.is.cut caused.is.silent ends.0 in
+        let none = unmatched-none (got_in part) f.replies caused.unmatched in
+        let long = lasting (request_of c) c.tries c.wait caused.rests is.tries.0 is.wait.0 patient caused.all caused.vain.waited in
+        let cut : part ≡ Send (request_of c) ∷ long.0 = caused.is.cut ∙ long.1 in
+        let goes : AllGo s (Send (request_of c) ∷ long.0) f.t = subst (λ (l : List Step). AllGo s l f.t) cut f.goes in
+        let got_none : got_in long.0 ≡ [] = sym (ap got_in cut) ∙ none in
+        let waits = reply_waits goes.0 f.t long.0 goes.2 got_none (omega (arith, goes.1.new_sent)) long.2 in
+        omega (arith, waits, none_waits c is (run c w part) (entries ++ record_of c w part) f.t f.stands ends.1)
+
+    no_flood : IsCaused c Addr (AddrFlood stage.Rarp) part → Ends c plain w entries (AddrFlood stage.Rarp) part → ⊥
+    no_flood caused ended =
+        let asks = caused.asks in
+        let f = follow_tries (asks.before ++ asks.last ∷ []) asks.is.cut asks.is.silent (ended settled) in
+        let none = unmatched-none (got_in part) f.replies caused.unmatched in
+        omega (arith, caused.many, last_within (request_of c) asks.before asks.last, ap (λ (l : List Step). length (got_in l)) asks.is.cut, ap length none)
+
+    pause_next : (ticks shown : ℕ) → IsCaused c (Wait ticks) (WaitOk shown) part → Ends c plain w entries (WaitOk shown) part → Next w entries (record { part = part; answer = WaitOk shown })
+    pause_next ticks shown caused ended =
+        let silent = caused.1.silent in
+        let f = follow_silent silent in
+        record {
+          ok = tt;
+          t = f.t;
+          stands = f.stands;
+          rests = pause_rests s f.t part rests f.goes silent (none_waits c is (run c w part) (entries ++ record_of c w part) f.t f.stands ended);
+          settled = ended;
+        }
+
+    no_wait_flood : (ticks shown : ℕ) → IsCaused c (Wait ticks) (WaitFlood shown) part → ⊥
+    no_wait_flood ticks shown caused =
+        let silent = caused.1.silent in
+        let f = follow_silent silent in
+        omega (arith, caused.1.many, pause_few s f.t part rests f.goes silent)
+
+    next : (command : Command) (answer : Told) → IsCaused c command answer part → Ends c plain w entries answer part → Next w entries (record { part = part; answer = answer })
+    next Addr (AddrOk ip) caused ended = address_next ip caused ended
+    next Addr AddrTimeout caused ended = absurd (no_timeout caused ended)
+    next Addr (AddrFlood stage.Rarp) caused ended = absurd (no_flood caused ended)
+    next Addr (AddrFlood stage.Wait) caused ended = absurd caused
+    next Addr AddrLinkFault caused ended = absurd caused
+    next (Wait ticks) (WaitOk shown) caused ended = pause_next ticks shown caused ended
+    next (Wait ticks) (WaitFlood shown) caused ended = absurd (no_wait_flood ticks shown caused)
+    next (Wait ticks) (WaitLinkFault shown) caused ended = absurd caused
+    next Addr (WaitOk shown) caused ended = absurd caused
+    next Addr (WaitFlood shown) caused ended = absurd caused
+    next Addr (WaitLinkFault shown) caused ended = absurd caused
+    next (Wait ticks) (AddrOk ip) caused ended = absurd caused
+    next (Wait ticks) AddrTimeout caused ended = absurd caused
+    next (Wait ticks) (AddrFlood step) caused ended = absurd caused
+    next (Wait ticks) AddrLinkFault caused ended = absurd caused
+
+  -- ---- all commands
+
+  all_ok : 2 ≤ c.tries * c.wait → (w : World) (entries : List Entry) (s : Stages) (commands : List Command) (done : List Done) → Stands c is w entries s → Rests s → AllGot c plain w entries
+      → AllAllowed c w (parts_of done) → AllInTurn c plain w entries (parts_of done) → AllCaused c commands done → AllEnd c plain w entries done → AllByRecursion (λ d. IsOk d.answer) done
+  all_ok patient w entries s commands [] at rests settled allowed turns caused ended = tt
+  all_ok patient w entries s [] (d ∷ ds) at rests settled allowed turns caused ended = absurd caused
+  all_ok patient w entries s (k ∷ ks) (d ∷ ds) at rests settled allowed turns caused ended =
+      let a = allowed-split c is w d.part (parts_of ds) allowed in
+      let t = in_turn-split c plain w entries d.part (parts_of ds) turns in
+      let n = next patient w entries s d.part at rests settled a.0 t.0 k d.answer caused.0 ended.0 in
+      (n.ok, all_ok patient (run c w d.part) (entries ++ record_of c w d.part) n.t ks ds n.stands n.rests n.settled a.1 t.1 caused.1 ended.1)
+
+-- all answers of a calm script are ok
+pub complete : (s : Script) → IsConfig s.config → (commands : List Command) (done : List Done) → IsLawful s.config (fates_of s.events) (parts_of done) → AllCaused s.config commands done
+    → AllEnd s.config (fates_of s.events) (start s.config) [] done → IsCalm s → AllByRecursion (λ d. IsOk d.answer) done
+complete s is commands done law caused ended calm =
+    let c = s.config in
+    all_ok c is calm.patient (start c) [] (record { sent = 0; asked = 0; replied = 0; waiting = 0 }) commands done (stands_start c is)
+    (record { none_sent = refl; few = omega arith; none_waits = refl }) refl law.allowed
+    (subst (λ (l : List Fate). AllInTurn c (fate_in l) (start c) [] (parts_of done)) calm.plain law.in_turn) caused
+    (subst (λ (l : List Fate). AllEnd c (fate_in l) (start c) [] done) calm.plain ended)

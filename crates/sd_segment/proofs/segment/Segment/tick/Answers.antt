@@ -1,0 +1,10 @@
+use Rattle.std.proofs.Common.{◌≡◌, [], subst}
+use Rattle.sd_link.specs.Link.{NothingWaits}
+use Rattle.sd_segment.specs.Inside.{view_of}
+use Rattle.sd_segment.specs.Segment.{SegmentView, history_of}
+use Rattle.sd_segment.proofs.Passing.{settled_of}
+use Rattle.sd_segment.proofs.segment.Segment.tick.Goals as goal
+
+pub returns-clause-settled : goal.returns-clause-settled
+returns-clause-settled c =
+    subst (λ (v : SegmentView). v.to_client ≡ [] → NothingWaits (history_of v)) c.self.view_is (settled_of (view_of c.self.inside) c.self.invariant)
