@@ -1,5 +1,5 @@
 -- What a status says of the program that the words call for.
-use Rattle.std.proofs.Common.{◌≡◌, ℕ, ◌≤◌, List, [], ◌∷◌, Option, Some, None, Result, Ok, Err, refl, sym, ◌∙◌, ap, subst, arith, get_or, inl, inr}
+use Rattle.std.proofs.Common.{◌≡◌, ℕ, ◌≤◌, List, [], ◌∷◌, Option, Result, Ok, Err, refl, sym, ◌∙◌, ap, subst, arith, get_or, inl, inr}
 use Rattle.std.specs.Prelude.{◌⊎◌, IsErrOf, IfSome, codes}
 use Rattle.sd_outside.specs.Causes.{Rose}
 use Rattle.sd_script.specs.declared.script.Script.{Script}
@@ -15,7 +15,7 @@ use Rattle.sd_boot.specs.declared.words.Program.{Program}
 use Rattle.sd_boot.specs.declared.words.Program.TheVariants.{Replay, Show, Pack}
 use Rattle.sd_boot.specs.Status.{status_for}
 use Rattle.sd_boot.specs.Words.{HasWords, IsRow}
-use Rattle.sd_boot.specs.PacketTexts.{IsTranslated, IsPlaced, IsNoneOrPart, Translates}
+use Rattle.sd_boot.specs.PacketTexts.{IsTranslated, IsTextRefusal, IsTextFront, Translates}
 use Rattle.sd_boot.specs.Programs.{IsDone, IsRefused, IsCut, Performs}
 use Rattle.sd_boot.proofs.Statuses.{whole_of, refusal_of, front_of, script_done}
 
@@ -43,21 +43,21 @@ translated_of d (Err SourceFault) told old new is w = absurd (omega (arith, is))
 translated_of d (Err SinkFault) told old new is w = absurd (omega (arith, is))
 translated_of d (Err NoMemory) told old new is w = absurd (omega (arith, is))
 
-placed_of : (d : Direction) (r : Result Ended Stop) (told old new : Option (List ℕ)) → (status_for r).0 ≡ 1 → Writes told old new (Translates d r) → Writes told old new (IsPlaced d)
-placed_of d (Ok Done) told old new is w = absurd (omega (arith, is))
-placed_of d (Ok Refused) told old new is w = w
-placed_of d (Ok Usage) told old new is w = absurd (omega (arith, is))
-placed_of d (Err SourceFault) told old new is w = absurd (omega (arith, is))
-placed_of d (Err SinkFault) told old new is w = absurd (omega (arith, is))
-placed_of d (Err NoMemory) told old new is w = absurd (omega (arith, is))
+text_refusal_of : (d : Direction) (r : Result Ended Stop) (told old new : Option (List ℕ)) → (status_for r).0 ≡ 1 → Writes told old new (Translates d r) → Writes told old new (IsTextRefusal d)
+text_refusal_of d (Ok Done) told old new is w = absurd (omega (arith, is))
+text_refusal_of d (Ok Refused) told old new is w = w
+text_refusal_of d (Ok Usage) told old new is w = absurd (omega (arith, is))
+text_refusal_of d (Err SourceFault) told old new is w = absurd (omega (arith, is))
+text_refusal_of d (Err SinkFault) told old new is w = absurd (omega (arith, is))
+text_refusal_of d (Err NoMemory) told old new is w = absurd (omega (arith, is))
 
-part_of : (d : Direction) (r : Result Ended Stop) (told old new : Option (List ℕ)) → 4 ≤ (status_for r).0 → Writes told old new (Translates d r) → Writes told old new (IsNoneOrPart d)
-part_of d (Ok Done) told old new is w = absurd (omega (arith, is))
-part_of d (Ok Refused) told old new is w = absurd (omega (arith, is))
-part_of d (Ok Usage) told old new is w = absurd (omega (arith, is))
-part_of d (Err SourceFault) told old new is w = absurd (omega (arith, is))
-part_of d (Err SinkFault) told old new is w = w
-part_of d (Err NoMemory) told old new is w = w
+text_front_of : (d : Direction) (r : Result Ended Stop) (told old new : Option (List ℕ)) → 4 ≤ (status_for r).0 → Writes told old new (Translates d r) → Writes told old new (IsTextFront d)
+text_front_of d (Ok Done) told old new is w = absurd (omega (arith, is))
+text_front_of d (Ok Refused) told old new is w = absurd (omega (arith, is))
+text_front_of d (Ok Usage) told old new is w = absurd (omega (arith, is))
+text_front_of d (Err SourceFault) told old new is w = absurd (omega (arith, is))
+text_front_of d (Err SinkFault) told old new is w = w
+text_front_of d (Err NoMemory) told old new is w = w
 
 done : (p : Program) (r : Result Ended Stop) (told old new : Option (List ℕ)) → (status_for r).0 ≡ 0 → Writes told old new (Performs p r) → Writes told old new (IsDone p)
 done Replay r told old new is w = whole_of r told old new is w
@@ -66,13 +66,13 @@ done Pack r told old new is w = translated_of directions.Pack r told old new is 
 
 refused : (p : Program) (r : Result Ended Stop) (told old new : Option (List ℕ)) → (status_for r).0 ≡ 1 → Writes told old new (Performs p r) → Writes told old new (IsRefused p)
 refused Replay r told old new is w = refusal_of r told old new is w
-refused Show r told old new is w = placed_of directions.Show r told old new is w
-refused Pack r told old new is w = placed_of directions.Pack r told old new is w
+refused Show r told old new is w = text_refusal_of directions.Show r told old new is w
+refused Pack r told old new is w = text_refusal_of directions.Pack r told old new is w
 
 cut : (p : Program) (r : Result Ended Stop) (told old new : Option (List ℕ)) → 4 ≤ (status_for r).0 → Writes told old new (Performs p r) → Writes told old new (IsCut p)
 cut Replay r told old new is w = front_of r told old new is w
-cut Show r told old new is w = part_of directions.Show r told old new is w
-cut Pack r told old new is w = part_of directions.Pack r told old new is w
+cut Show r told old new is w = text_front_of directions.Show r told old new is w
+cut Pack r told old new is w = text_front_of directions.Pack r told old new is w
 
 -- the same for the program whose words they are
 

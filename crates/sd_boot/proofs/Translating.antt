@@ -2,7 +2,6 @@
 use Rattle.std.proofs.Common.{◌≡◌, ℕ, ◌<◌, ◌≤◌, List, [], ◌∷◌, ◌++◌, length, Option, Some, None, Result, Ok, Err, refl, sym, ◌∙◌, ap, subst, arith, inl, inr}
 use Rattle.std.specs.Prelude.{◌⊎◌, IfOk, IfSome}
 use Rattle.std.specs.List.{concat}
-use Rattle.sd_outside.specs.Streams.{Gains}
 use Rattle.sd_link.specs.Texts.{Text}
 use Rattle.sd_link.specs.Lawful.{IsFrontOf}
 use Rattle.sd_script.specs.Limits.{input_limit}
@@ -11,7 +10,6 @@ use Rattle.sd_script.proofs.OneScript.{lines_joined}
 use Rattle.sd_claims.specs.Headline.{Writes}
 use Rattle.sd_boot_chain.specs.Writing.{GainsFront}
 use Rattle.sd_boot_chain.proofs.Gaining.{gains_nothing}
-use Rattle.sd_show.specs.declared.error.ShowError.TheVariants as errors
 use Rattle.sd_boot.specs.declared.packet_texts.Direction.{Direction}
 use Rattle.sd_boot.specs.declared.status.Ended.{Ended}
 use Rattle.sd_boot.specs.declared.status.Ended.TheVariants.{Done, Refused, Usage}
@@ -19,7 +17,7 @@ use Rattle.sd_boot.specs.declared.status.Stop.{Stop}
 use Rattle.sd_boot.specs.declared.status.Stop.TheVariants.{SourceFault, SinkFault, NoMemory}
 use Rattle.sd_boot.specs.Input.{IsRead}
 use Rattle.sd_boot.specs.Play.{GainsSome}
-use Rattle.sd_boot.specs.PacketTexts.{IsWhy, IsTranslated, IsPlaced, IsPart, IsNoneOrPart, Translates}
+use Rattle.sd_boot.specs.PacketTexts.{IsTranslated, IsTextRefusal, IsTextFront, Translates}
 use Rattle.sd_boot.proofs.Cutting.{Extends, extends, IsThere, there, concat-last}
 
 -- ---- from a text to what was written
@@ -28,7 +26,7 @@ use Rattle.sd_boot.proofs.Cutting.{Extends, extends, IsThere, there, concat-last
 pub no_memory : (d : Direction) (text : Text) (told : Option (List ℕ)) → GainsSome told told (Translates d (Err NoMemory) text)
 no_memory d text told = ([], gains_nothing told, inl refl)
 
-full : (d : Direction) (text out : Text) (ended : Ended) → Translates d (Ok ended) text out → IsTranslated d text out ⊎ IsPlaced d text out
+full : (d : Direction) (text out : Text) (ended : Ended) → Translates d (Ok ended) text out → IsTranslated d text out ⊎ IsTextRefusal d text out
 full d text out Done t = inl t
 full d text out Refused t = inr t
 full d text out Usage t = absurd t
@@ -43,13 +41,13 @@ not_written d text out ended old new NoMemory t f never = (f.0, f.2, inr (record
 -- ---- from what was read to what the source told
 
 -- a front that passes the limit is refused where the whole is
-placed_alike : (d : Direction) (front whole out : Text) → input_limit < length front → IsFrontOf front whole → IsPlaced d front out → IsPlaced d whole out
-placed_alike d front whole out long is p =
+refusal_alike : (d : Direction) (front whole out : Text) → input_limit < length front → IsFrontOf front whole → IsTextRefusal d front out → IsTextRefusal d whole out
+refusal_alike d front whole out long is p =
     let rest = is.0 in
     let t = there p.before p.line p.others (lines (front ++ rest)) (subst (λ (l : List (List ℕ)). Extends l (lines (front ++ rest))) p.cut (extends front rest)) in
     of t t.same
   where
-    of : (t : IsThere p.before p.line p.others (lines (front ++ is.0))) → (t.grown ≡ p.line) ⊎ ((p.others ≡ []) × (length p.line ≤ length t.grown)) → IsPlaced d whole out
+    of : (t : IsThere p.before p.line p.others (lines (front ++ is.0))) → (t.grown ≡ p.line) ⊎ ((p.others ≡ []) × (length p.line ≤ length t.grown)) → IsTextRefusal d whole out
     of t (inl same) = record {
       before = p.before;
       line = p.line;
@@ -80,20 +78,20 @@ placed_alike d front whole out long is p =
           whole = p.whole;
         }
 
-part_alike : (d : Direction) (text all out : Text) → IsFrontOf text all → input_limit < length text → IsNoneOrPart d text out → IsNoneOrPart d all out
-part_alike d text all out front long (inl none) = inl none
-part_alike d text all out front long (inr p) = elim p.is [
+front_alike : (d : Direction) (text all out : Text) → IsFrontOf text all → input_limit < length text → IsTextFront d text out → IsTextFront d all out
+front_alike d text all out front long (inl none) = inl none
+front_alike d text all out front long (inr p) = elim p.is [
   | inl whole ↦ absurd (omega (arith, long, whole.within))
-  | inr placed ↦ inr (record { full = p.full; is = inr (placed_alike d text all p.full long front placed); front = p.front })
+  | inr placed ↦ inr (record { full = p.full; is = inr (refusal_alike d text all p.full long front placed); front = p.front })
 ]
 
 alike : (d : Direction) (r : Result Ended Stop) (text all out : Text) → IsFrontOf text all → input_limit < length text → Translates d r text out → Translates d r all out
 alike d (Ok Done) text all out front long t = absurd (omega (arith, long, t.within))
-alike d (Ok Refused) text all out front long t = placed_alike d text all out long front t
+alike d (Ok Refused) text all out front long t = refusal_alike d text all out long front t
 alike d (Ok Usage) text all out front long t = t
 alike d (Err SourceFault) text all out front long t = t
-alike d (Err SinkFault) text all out front long t = part_alike d text all out front long t
-alike d (Err NoMemory) text all out front long t = part_alike d text all out front long t
+alike d (Err SinkFault) text all out front long t = front_alike d text all out front long t
+alike d (Err NoMemory) text all out front long t = front_alike d text all out front long t
 
 -- what was read is turned into what all that the source told is
 pub translated : (d : Direction) (told left : Option (List ℕ)) (text : Text) (old new : Option (List ℕ)) (r : Result Ended Stop) → IsRead told left text

@@ -11,7 +11,7 @@ use Rattle.sd_show.specs.declared.error.Word.{Word}
 use Rattle.sd_show.specs.declared.error.ShowError.{ShowError}
 use Rattle.sd_show.specs.declared.error.ShowError.TheVariants as errors
 use Rattle.sd_boot.specs.declared.packet_texts.Direction.{Direction}
-use Rattle.sd_boot.specs.PacketTexts.{Gives, GivesNone, IsNotGiven, IsLineRefused, AreGiven, IsWhy, IsTranslated, IsPlaced, place_line}
+use Rattle.sd_boot.specs.PacketTexts.{Gives, GivesNone, IsNotGiven, IsLineRefused, AllGive, IsRefusedFor, IsTranslated, IsTextRefusal, place_line}
 
 -- a line within the limit is refused for what stands in it
 pub refused_within : {T : Type 0} (d : Direction) (line body : Text) (end : ℕ) (r : Result T ShowError) → end ≤ input_limit → body ≡ without_feed line → IfErr r (IsNotGiven d body)
@@ -25,8 +25,8 @@ pub pushed : (old text mid new : Text) → mid ≡ old ++ text → new ≡ mid +
 pushed old text mid new first second = second ∙ ap (λ (m : Text). m ++ (10 ∷ [])) first ∙ append_assoc old text (10 ∷ [])
 
 -- a further line
-given-snoc : (d : Direction) (before : List Text) (line text out : Text) → AreGiven d before out → Gives d (without_feed line) text
-    → AreGiven d (before ++ (line ∷ [])) (out ++ (text ++ (10 ∷ [])))
+given-snoc : (d : Direction) (before : List Text) (line text out : Text) → AllGive d before out → Gives d (without_feed line) text
+    → AllGive d (before ++ (line ∷ [])) (out ++ (text ++ (10 ∷ [])))
 given-snoc d [] line text out none h = (text, [], h, refl, ap (λ (o : Text). o ++ (text ++ (10 ∷ []))) none)
 given-snoc d (first ∷ before) line text out given h = (
   given.0,
@@ -40,7 +40,7 @@ given-snoc d (first ∷ before) line text out given h = (
 pub record IsSoFar (d : Direction) (input rest output : Text) (number : ℕ) : Type 0 where
   pub before : List Text
   pub parted : lines input ≡ before ++ lines rest
-  pub given : AreGiven d before output
+  pub given : AllGive d before output
   pub within : length (concat before) ≤ input_limit
   pub bytes : length (concat before) + length rest ≡ length input
   pub count : number ≡ length before
@@ -66,7 +66,7 @@ so_far_goes_on d input rest output number line after text s next fits h =
 
 -- the next line is refused
 pub so_far_stops : (d : Direction) (input rest output : Text) (number : ℕ) (line after : Text) (word : Word) (place : ℕ) → IsSoFar d input rest output number → IsNextLine rest line after
-    → IsWhy d line (length input - length after) (errors.Bad word place) → IsPlaced d input (output ++ place_line (number + 1) word place)
+    → IsRefusedFor d line (length input - length after) (errors.Bad word place) → IsTextRefusal d input (output ++ place_line (number + 1) word place)
 so_far_stops d input rest output number line after word place s next why =
     let whole : length rest ≡ length line + length after = ap length next.whole ∙ length-append line after in
     let end : length input - length after ≡ length (concat s.before) + length line = omega (arith, whole, s.bytes) in
@@ -80,7 +80,7 @@ so_far_stops d input rest output number line after word place s next why =
       cut = s.parted ∙ ap (λ (more : List Text). s.before ++ more) next.lines_are;
       within = s.within;
       given = s.given;
-      why = subst (λ (n : ℕ). IsWhy d line n (errors.Bad word place)) end why;
+      why = subst (λ (n : ℕ). IsRefusedFor d line n (errors.Bad word place)) end why;
       whole = ap (λ (n : ℕ). output ++ place_line (n + 1) word place) s.count;
     }
 
@@ -90,5 +90,5 @@ so_far_ends d input rest output number none s =
     let all : lines input ≡ s.before = s.parted ∙ rw none (append-nil s.before) in
     record {
       within = omega (arith, s.within, s.bytes, ap length none);
-      given = subst (λ (l : List Text). AreGiven d l output) (sym all) s.given;
+      given = subst (λ (l : List Text). AllGive d l output) (sym all) s.given;
     }

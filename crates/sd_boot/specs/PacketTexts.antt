@@ -35,25 +35,25 @@ GivesNone Pack line why = ((packet : Packet) → Packs line packet → ⊥) × (
 
 -- Why a line is refused, where `end` counts the input's bytes up to its last: it reaches past the input limit, or it is turned
 -- into nothing.
-abbrev pub IsWhy : Direction → Text → ℕ → ShowError → Type 0
-IsWhy d line end why = ((input_limit < end) × (why ≡ not_a_line)) ⊎ ((end ≤ input_limit) × GivesNone d (without_feed line) why)
+abbrev pub IsRefusedFor : Direction → Text → ℕ → ShowError → Type 0
+IsRefusedFor d line end why = ((input_limit < end) × (why ≡ not_a_line)) ⊎ ((end ≤ input_limit) × GivesNone d (without_feed line) why)
 
 -- what lines are turned into, one after another, each with a line feed
-abbrev pub AreGiven : Direction → List Text → Text → Type 0
-AreGiven d [] out = out ≡ []
-AreGiven d (line ∷ more) out = (text : Text) × (rest : Text) × Gives d (without_feed line) text × AreGiven d more rest × (out ≡ text ++ (10 ∷ rest))
+abbrev pub AllGive : Direction → List Text → Text → Type 0
+AllGive d [] out = out ≡ []
+AllGive d (line ∷ more) out = (text : Text) × (rest : Text) × Gives d (without_feed line) text × AllGive d more rest × (out ≡ text ++ (10 ∷ rest))
 
 -- All lines of an input within the limit are turned so.
 pub record IsTranslated (d : Direction) (input out : Text) : Type 0 where
   pub within : length input ≤ input_limit
-  pub given : AreGiven d (lines input) out
+  pub given : AllGive d (lines input) out
 
 -- the line that names a refused line, with the word and the place
 abbrev pub place_line : ℕ → Word → ℕ → Text
 place_line n word place = codes "refused line " ++ decimal n ++ 32 ∷ word_text word ++ 32 ∷ decimal place ++ 10 ∷ []
 
 -- The lines before the refused one are turned so, and its number, word and place follow.
-pub record IsPlaced (d : Direction) (input out : Text) : Type 0 where
+pub record IsTextRefusal (d : Direction) (input out : Text) : Type 0 where
   pub before : List Text
   pub line : Text
   pub others : List Text
@@ -62,46 +62,46 @@ pub record IsPlaced (d : Direction) (input out : Text) : Type 0 where
   pub place : ℕ
   pub cut : lines input ≡ before ++ (line ∷ others)
   pub within : length (concat before) ≤ input_limit
-  pub given : AreGiven d before texts
-  pub why : IsWhy d line (length (concat before) + length line) (errors.Bad word place)
+  pub given : AllGive d before texts
+  pub why : IsRefusedFor d line (length (concat before) + length line) (errors.Bad word place)
   pub whole : out ≡ texts ++ place_line (length before + 1) word place
 
 -- a front of what would have been written
-pub record IsPart (d : Direction) (input out : Text) : Type 0 where
+pub record IsCutText (d : Direction) (input out : Text) : Type 0 where
   pub full : Text
-  pub is : IsTranslated d input full ⊎ IsPlaced d input full
+  pub is : IsTranslated d input full ⊎ IsTextRefusal d input full
   pub front : IsFrontOf out full
 
-abbrev pub IsNoneOrPart : Direction → Text → Text → Type 0
-IsNoneOrPart d input out = (out ≡ []) ⊎ IsPart d input out
+abbrev pub IsTextFront : Direction → Text → Text → Type 0
+IsTextFront d input out = (out ≡ []) ⊎ IsCutText d input out
 
 -- the same for each of the two programs
 abbrev pub IsShown : Text → Text → Type 0
 IsShown input out = IsTranslated Show input out
 
 abbrev pub IsShowRefusal : Text → Text → Type 0
-IsShowRefusal input out = IsPlaced Show input out
+IsShowRefusal input out = IsTextRefusal Show input out
 
 abbrev pub IsShowFront : Text → Text → Type 0
-IsShowFront input out = IsNoneOrPart Show input out
+IsShowFront input out = IsTextFront Show input out
 
 abbrev pub IsPacked : Text → Text → Type 0
 IsPacked input out = IsTranslated Pack input out
 
 abbrev pub IsPackRefusal : Text → Text → Type 0
-IsPackRefusal input out = IsPlaced Pack input out
+IsPackRefusal input out = IsTextRefusal Pack input out
 
 abbrev pub IsPackFront : Text → Text → Type 0
-IsPackFront input out = IsNoneOrPart Pack input out
+IsPackFront input out = IsTextFront Pack input out
 
 -- what is written, by how the program ended
 abbrev pub Translates : Direction → Result Ended Stop → Text → Text → Type 0
 Translates d (Ok Done) input out = IsTranslated d input out
-Translates d (Ok Refused) input out = IsPlaced d input out
+Translates d (Ok Refused) input out = IsTextRefusal d input out
 Translates d (Ok Usage) input out = ⊥
 Translates d (Err SourceFault) input out = out ≡ []
-Translates d (Err SinkFault) input out = IsNoneOrPart d input out
-Translates d (Err NoMemory) input out = IsNoneOrPart d input out
+Translates d (Err SinkFault) input out = IsTextFront d input out
+Translates d (Err NoMemory) input out = IsTextFront d input out
 
 -- what a refusal says; want of memory says nothing
 abbrev pub IsNotGiven : Direction → Text → ShowError → Type 0
@@ -109,5 +109,5 @@ IsNotGiven d line (errors.Bad word place) = GivesNone d line (errors.Bad word pl
 IsNotGiven d line errors.NoMemory = Unit {0}
 
 abbrev pub IsLineRefused : Direction → Text → ℕ → ShowError → Type 0
-IsLineRefused d line end (errors.Bad word place) = IsWhy d line end (errors.Bad word place)
+IsLineRefused d line end (errors.Bad word place) = IsRefusedFor d line end (errors.Bad word place)
 IsLineRefused d line end errors.NoMemory = Unit {0}

@@ -1,8 +1,8 @@
-use Rattle.std.proofs.Common.{◌≡◌, ◌≤◌, sym, subst, arith}
+use Rattle.std.proofs.Common.{◌≤◌, sym, subst, arith}
 use Rattle.std.specs.Prelude.{IfErr}
 use Rattle.sd_script.specs.Limits.{input_limit}
 use Rattle.sd_boot.specs.declared.packet_texts.Direction.{Direction}
-use Rattle.sd_boot.specs.declared.packet_texts.Direction.TheVariants.{Show, Pack}
+use Rattle.sd_boot.specs.declared.packet_texts.Direction.TheVariants.{Show}
 use Rattle.sd_boot.specs.PacketTexts.{IsLineRefused}
 use Rattle.sd_boot.proofs.Turning.{refused_within}
 use Rattle.sd_boot.proofs.packet_texts.turned.Goals as goal
