@@ -9,7 +9,7 @@ use Rattle.sd_script.specs.Grammar.{lines, IsScript, IsFirstOutside, IsRefusedLi
 use Rattle.sd_script.proofs.OneScript.{lines_joined}
 
 -- the lines go on with the text: the last may grow, and more may follow
-Extends : List (List ℕ) → List (List ℕ) → Type 0
+pub Extends : List (List ℕ) → List (List ℕ) → Type 0
 Extends [] whole = Unit {0}
 Extends (line ∷ []) whole = (more : List ℕ) × (after : List (List ℕ)) × (whole ≡ (line ++ more) ∷ after)
 Extends (line ∷ next ∷ others) whole = (rest : List (List ℕ)) × (whole ≡ line ∷ rest) × Extends (next ∷ others) rest
@@ -33,7 +33,7 @@ choose : (t : Bool) (b : ℕ) (xs whole : List (List ℕ)) → ((t ≡ true) →
 choose true b xs whole is e = subst (λ (c : ℕ). Extends ((c ∷ []) ∷ xs) ((c ∷ []) ∷ whole)) (sym (is refl)) (feed xs whole e)
 choose false b xs whole is e = onto b xs whole e
 
-extends : (front rest : List ℕ) → Extends (lines front) (lines (front ++ rest))
+pub extends : (front rest : List ℕ) → Extends (lines front) (lines (front ++ rest))
 unfolding Extends
 extends [] rest = tt
 extends (b ∷ front) rest = choose (b == 10) b (lines front) (lines (front ++ rest)) (λ h. grind (arith, h)) (extends front rest)
@@ -45,7 +45,7 @@ pub record IsThere (before : List (List ℕ)) (line : List ℕ) (after whole : L
   pub cut : whole ≡ before ++ (grown ∷ others)
   pub same : (grown ≡ line) ⊎ ((after ≡ []) × (length line ≤ length grown))
 
-there : (before : List (List ℕ)) (line : List ℕ) (after whole : List (List ℕ)) → Extends (before ++ (line ∷ after)) whole → IsThere before line after whole
+pub there : (before : List (List ℕ)) (line : List ℕ) (after whole : List (List ℕ)) → Extends (before ++ (line ∷ after)) whole → IsThere before line after whole
 unfolding Extends
 there [] line [] whole e = record { grown = line ++ e.0; others = e.1; cut = e.2; same = inr (refl, omega (arith, length-append line e.0)) }
 there [] line (next ∷ after) whole e = record { grown = line; others = e.0; cut = e.1; same = inl refl }
@@ -56,7 +56,7 @@ there (first ∷ second ∷ before) line after whole e =
     let t = there (second ∷ before) line after e.0 e.2 in
     record { grown = t.grown; others = t.others; cut = e.1 ∙ ap (λ (l : List (List ℕ)). first ∷ l) t.cut; same = t.same }
 
-concat-last : (before : List (List ℕ)) (line : List ℕ) → length (concat (before ++ (line ∷ []))) ≡ length (concat before) + length line
+pub concat-last : (before : List (List ℕ)) (line : List ℕ) → length (concat (before ++ (line ∷ []))) ≡ length (concat before) + length line
 concat-last [] line = omega (arith, ap length (append-nil line))
 concat-last (first ∷ before) line = omega (arith, length-append first (concat before), length-append first (concat (before ++ (line ∷ []))), concat-last before line)
 

@@ -4,5 +4,8 @@ pub mod Stages
 pub mod Following
 pub mod Completing
 pub mod Composing
+pub mod Performing
 pub mod Replaying
 pub mod Statuses
+pub mod Translating
+pub mod Turning

@@ -1,8 +1,26 @@
 -- The program's words.
-use Rattle.std.specs.Prelude.{◌≡◌, ℕ, List, [], ◌∷◌, codes}
+use Rattle.std.specs.Prelude.{◌≡◌, ◌⊎◌, ℕ, List, [], ◌∷◌, codes}
+use Rattle.sd_boot.specs.declared.words.Program.{Program}
+use Rattle.sd_boot.specs.declared.words.Program.TheVariants.{Replay, Show, Pack}
 
 abbrev pub IsReplay : List (List ℕ) → Type 0
 IsReplay words = words ≡ codes "replay" ∷ []
+
+abbrev pub IsShow : List (List ℕ) → Type 0
+IsShow words = words ≡ codes "show" ∷ []
+
+abbrev pub IsPack : List (List ℕ) → Type 0
+IsPack words = words ≡ codes "pack" ∷ []
+
+-- the words are in a row
+abbrev pub IsRow : List (List ℕ) → Type 0
+IsRow words = IsReplay words ⊎ IsShow words ⊎ IsPack words
+
+-- the row of a program
+abbrev pub HasWords : Program → List (List ℕ) → Type 0
+HasWords Replay words = IsReplay words
+HasWords Show words = IsShow words
+HasWords Pack words = IsPack words
 
 -- what is written where the words are in no row
 abbrev pub usage_line : List ℕ

@@ -8,7 +8,7 @@ use sd_outside::{ByteList, Failed, Source};
 use std::alloc::Global;
 
 /// The most bytes of an input that is whole.
-const INPUT_LIMIT: usize = 67_108_864;
+pub(crate) const INPUT_LIMIT: usize = 67_108_864;
 
 /// All of the input, or a front of it that passes the limit.
 pub(crate) fn read_all<S: Source>(alloc: Global, source: &mut S) -> Result<ByteList, Stop>

@@ -1,12 +1,14 @@
 //! The programs of the boot chain, as calls from words and input to output and status.
 //!
 //! `run` carries the headline for `replay`: what it writes is the transcript of a lawful run of the script that it read,
-//! its answers are those of the boot machine, and each is earned or caused by its part of the run. The adapters over
-//! standard input and output tell no bytes, and count their faults.
+//! its answers are those of the boot machine, and each is earned or caused by its part of the run. For `show` and
+//! `pack` it is what each line of the input is turned into, or what the lines before the first refused one are, and its
+//! refusal. The adapters over standard input and output tell no bytes, and count their faults.
 #![tactic(auto)]
 
 mod input;
 mod output;
+mod packet_texts;
 mod play;
 mod programs;
 mod replay;

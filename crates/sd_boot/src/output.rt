@@ -4,15 +4,17 @@ ghost use Rattle.sd_outside.specs.Causes.{Rose};
 ghost use Rattle.sd_outside.specs.Streams.{Gains};
 ghost use Rattle.sd_boot_chain.specs.Writing.{GainsFront};
 ghost use Rattle.sd_claims.specs.Headline.{refusal_line};
+ghost use Rattle.sd_boot.specs.PacketTexts.{place_line};
 ghost use Rattle.sd_boot.specs.Words.{usage_line};
 
 use crate::status::{Ended, Stop};
 use sd_boot_chain::write_all;
 use sd_outside::{ByteList, Failed, NoMemory, Sink};
+use sd_show::Word;
 use std::alloc::Global;
 
 /// Writes a text, or a front of it where the sink fails.
-fn write<K: Sink>(sink: &mut K, bytes: &[u8]) -> Result<(), Stop>
+pub(crate) fn write<K: Sink>(sink: &mut K, bytes: &[u8]) -> Result<(), Stop>
     ensures ok { OnOk result (Gains (K.written sink.old) (K.written sink.new) bytes.now) }
     ensures err { OnErr result (GainsFront (K.written sink.old) (K.written sink.new) bytes.now) }
     ensures calm { OnOk result (K.faults sink.new ≡ K.faults sink.old) }
@@ -34,6 +36,25 @@ fn refusal_line(alloc: Global, number: u64) -> Result<ByteList, NoMemory>
     line.push_slice(number.to_string(alloc)?.as_bytes())?;
     line.push_slice(b"\n")?;
     Ok(line)
+}
+
+/// The line that names a refused line, with the word and the place.
+pub(crate) fn place_line(
+    alloc: Global,
+    number: u64,
+    word: Word,
+    place: u64,
+) -> Result<ByteList, NoMemory>
+    ensures { IfOk result (λ text. text ≡ place_line number word place) }
+{
+    let mut text = ByteList::from_slice(alloc, b"refused line ")?;
+    text.push_slice(number.to_string(alloc)?.as_bytes())?;
+    text.push_slice(b" ")?;
+    text.push_slice(word.as_str().as_bytes())?;
+    text.push_slice(b" ")?;
+    text.push_slice(place.to_string(alloc)?.as_bytes())?;
+    text.push_slice(b"\n")?;
+    Ok(text)
 }
 
 /// Writes the refusal of an input.

@@ -1,18 +1,44 @@
 //! The programs, by their words.
-ghost use Rattle.std.specs.Prelude.{◌≡◌, ◌⊎◌, ◌≤◌, [], Some, IfSome};
+ghost use Rattle.std.specs.Prelude.{◌≡◌, ◌⊎◌, ◌≤◌, OnOk, IfOk, IfSome, IsErrOf, Some, []};
 ghost use Rattle.sd_outside.specs.Causes.{Rose};
 ghost use Rattle.sd_outside.specs.Streams.{Gains};
 ghost use Rattle.sd_script.specs.declared.script.Script.{Script};
 ghost use Rattle.sd_script.specs.Grammar.{IsScript};
 ghost use Rattle.sd_claims.specs.Headline.{IsTranscript, IsRefusal, IsFront, Writes};
-ghost use Rattle.sd_boot.specs.Words.{IsReplay, usage_line};
+ghost use Rattle.sd_boot.specs.PacketTexts.{IsShown, IsShowRefusal, IsShowFront, IsPacked, IsPackRefusal, IsPackFront};
+ghost use Rattle.sd_boot.specs.Programs.{Performs};
+ghost use Rattle.sd_boot.specs.Words.{IsReplay, IsShow, IsPack, IsRow, usage_line};
 
 use crate::output::usage;
+use crate::packet_texts::{Direction, translate};
 use crate::replay::replay;
-use crate::status::{Status, status_of};
-use crate::words::{Text, is_replay};
+use crate::status::{Ended, Status, Stop, status_of};
+use crate::words::{Program, Text, program_of};
 use sd_outside::{Sink, Source};
 use std::alloc::Global;
+
+/// One of the programs, from its input to its output.
+fn perform<S: Source, K: Sink>(
+    alloc: Global,
+    program: Program,
+    source: &mut S,
+    sink: &mut K,
+) -> Result<Ended, Stop>
+    ensures told { Writes (S.left source.old) (K.written sink.old) (K.written sink.new) (Performs program result) }
+    ensures whole { IfOk result (λ ended. ended ≡ Ended.Done → IfSome (S.left source.old) (λ all. S.left source.new ≡ Some [])) }
+    ensures usage { IfOk result (λ ended. ended ≡ Ended.Usage → ⊥) }
+    ensures read { IsErrOf result Stop.SourceFault → Rose (S.faults source.old) (S.faults source.new) }
+    ensures write { IsErrOf result Stop.SinkFault → Rose (K.faults sink.old) (K.faults sink.new) }
+    ensures nothing { IsErrOf result Stop.SourceFault → K.written sink.new ≡ K.written sink.old }
+    ensures calm_source { OnOk result (S.faults source.new ≡ S.faults source.old) }
+    ensures calm_sink { OnOk result (K.faults sink.new ≡ K.faults sink.old) }
+{
+    match program {
+        Program::Replay => replay(alloc, source, sink),
+        Program::Show => translate(alloc, Direction::Show, source, sink),
+        Program::Pack => translate(alloc, Direction::Pack, source, sink),
+    }
+}
 
 /// The program: from its words and its input to its output and its status.
 ///
@@ -35,12 +61,27 @@ pub fn run<S: Source, K: Sink>(
     // Cut short by the sink or by want of memory: the output is a front of the one or the other.
     ensures front { IsReplay words.now → 4 ≤ result.0 →
         Writes (S.left source.old) (K.written sink.old) (K.written sink.new) IsFront }
+    // `show`: each line of the input is a packet's, and the output is their texts, each with a line feed.
+    ensures shown { IsShow words.now → result.0 ≡ 0 →
+        Writes (S.left source.old) (K.written sink.old) (K.written sink.new) IsShown }
+    // Refused: the texts of the lines before the first refused one, its number, and the word and the place.
+    ensures show_refusal { IsShow words.now → result.0 ≡ 1 →
+        Writes (S.left source.old) (K.written sink.old) (K.written sink.new) IsShowRefusal }
+    ensures show_front { IsShow words.now → 4 ≤ result.0 →
+        Writes (S.left source.old) (K.written sink.old) (K.written sink.new) IsShowFront }
+    // `pack`: each line of the input is a packet's text, and the output is the packets' lines.
+    ensures packed { IsPack words.now → result.0 ≡ 0 →
+        Writes (S.left source.old) (K.written sink.old) (K.written sink.new) IsPacked }
+    ensures pack_refusal { IsPack words.now → result.0 ≡ 1 →
+        Writes (S.left source.old) (K.written sink.old) (K.written sink.new) IsPackRefusal }
+    ensures pack_front { IsPack words.now → 4 ≤ result.0 →
+        Writes (S.left source.old) (K.written sink.old) (K.written sink.new) IsPackFront }
     // Cut short by the source: nothing was written.
     ensures nothing { result.0 ≡ 3 → K.written sink.new ≡ K.written sink.old }
     // The usage line stands exactly where the words are in no row, unless the sink failed.
     ensures usage { result.0 ≡ 2 → Gains (K.written sink.old) (K.written sink.new) usage_line }
-    ensures unknown { (IsReplay words.now → ⊥) → (result.0 ≡ 2) ⊎ (result.0 ≡ 4) }
-    ensures known { IsReplay words.now → result.0 ≡ 2 → ⊥ }
+    ensures unknown { (IsRow words.now → ⊥) → (result.0 ≡ 2) ⊎ (result.0 ≡ 4) }
+    ensures known { IsRow words.now → result.0 ≡ 2 → ⊥ }
     // When each status comes.
     ensures statuses { result.0 ≤ 5 }
     ensures source { result.0 ≡ 3 → Rose (S.faults source.old) (S.faults source.new) }
@@ -52,9 +93,8 @@ pub fn run<S: Source, K: Sink>(
         IfSome (S.left source.old) (λ text. (script : Script) → IsScript text script → (result.0 ≡ 0) ⊎ (result.0 ≡ 5)) }
     ensures whole { result.0 ≡ 0 → IfSome (S.left source.old) (λ all. S.left source.new ≡ Some []) }
 {
-    if is_replay(words) {
-        status_of(replay(alloc, source, sink))
-    } else {
-        status_of(usage(sink))
+    match program_of(words) {
+        Some(program) => status_of(perform(alloc, program, source, sink)),
+        None => status_of(usage(sink)),
     }
 }

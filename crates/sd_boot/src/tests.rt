@@ -1,9 +1,12 @@
 //! The worked rows, from input to output and status.
 
+mod texts;
+
 use super::*;
 use sd_outside::{ByteList, CalmSink, CalmSource, MemSink, MemSource};
 use std::alloc::Global;
 use std::test::Fail;
+use texts::TEXT_ROWS;
 
 /// An input of `replay`, its status and its output.
 #[derive(Clone, Copy)]
@@ -84,9 +87,9 @@ fn words(alloc: Global, all: &[&str]) -> Result<Vec<Text>, Fail> {
     Ok(words)
 }
 
-/// What `replay` writes, and its status.
-fn replayed(alloc: Global, input: &[u8]) -> Result<(u8, ByteList), Fail> {
-    let words = words(alloc, &["replay"])?;
+/// What the program of a word writes, and its status.
+fn ran(alloc: Global, word: &str, input: &[u8]) -> Result<(u8, ByteList), Fail> {
+    let words = words(alloc, &[word])?;
     let mut source = CalmSource::new(alloc, input)?;
     let mut sink = CalmSink::new(alloc, 65_536)?;
     let status = run(alloc, words.as_slice(), &mut source, &mut sink);
@@ -102,7 +105,17 @@ fn plays_the_rows(rt: HostRuntime) -> Result<(), Fail> {
         ROW_0, ROW_1, ROW_2, ROW_3, ROW_4, ROW_5, ROW_6, ROW_7, ROW_8,
     ];
     for row in &rows {
-        let (status, output) = replayed(rt.alloc(), row.input)?;
+        let (status, output) = ran(rt.alloc(), "replay", row.input)?;
+        assert_eq!(rt; status, row.status);
+        assert_eq!(rt; output.as_slice(), row.output);
+    }
+    Ok(())
+}
+
+#[test]
+fn shows_and_packs_the_rows(rt: HostRuntime) -> Result<(), Fail> {
+    for row in &TEXT_ROWS {
+        let (status, output) = ran(rt.alloc(), row.word, row.input)?;
         assert_eq!(rt; status, row.status);
         assert_eq!(rt; output.as_slice(), row.output);
     }

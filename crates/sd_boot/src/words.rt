@@ -1,6 +1,6 @@
 //! The words of the command line.
-ghost use Rattle.std.specs.Prelude.{◌≡◌, ◌↔◌, IsTrue, IfOk};
-ghost use Rattle.sd_boot.specs.Words.{IsReplay};
+ghost use Rattle.std.specs.Prelude.{◌≡◌, ◌↔◌, IsTrue, IfOk, MatchOption};
+ghost use Rattle.sd_boot.specs.Words.{HasWords};
 
 use sd_outside::{ByteList, NoMemory};
 use std::alloc::Global;
@@ -38,9 +38,28 @@ impl Text {
     }
 }
 
-/// Whether the words are those of `replay`.
-pub(crate) fn is_replay(words: &[Text]) -> bool
-    ensures { IsTrue result ↔ IsReplay words.now }
+/// What the words call for.
+#[derive(Clone, Copy, Debug, PartialEq, Eq)]
+pub(crate) enum Program {
+    Replay,
+    Show,
+    Pack,
+}
+
+/// The program with these words, if there is one.
+pub(crate) fn program_of(words: &[Text]) -> Option<Program>
+    ensures { MatchOption result ((program : Program) → HasWords program words.now → ⊥) (λ program. HasWords program words.now) }
 {
-    words.len() == 1 && words[0].is(b"replay")
+    if words.len() != 1 {
+        return None;
+    }
+    if words[0].is(b"replay") {
+        Some(Program::Replay)
+    } else if words[0].is(b"show") {
+        Some(Program::Show)
+    } else if words[0].is(b"pack") {
+        Some(Program::Pack)
+    } else {
+        None
+    }
 }

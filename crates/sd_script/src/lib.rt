@@ -33,7 +33,7 @@ pub use fields::{only_number, read_ip, take_addr, take_end, take_number, take_ru
 pub use laws::{one_reading, packet_lines_are_read_again, runs_are_read_again};
 pub use packets::{read_packet_line, write_packet_line};
 pub use parts::Parts;
-pub use read::read_script;
+pub use read::{body_of, read_script, split_line};
 pub use record::{write_got, write_sent, write_served};
 pub use runs::{read_runs, write_runs};
 pub use script::{Command, CommandList, Script};

@@ -60,7 +60,7 @@ fn script_of(draft: Draft) -> Script
 }
 
 /// The first line, with its line feed where it has one, and what follows it.
-fn split_line(text: &[u8]) -> (&[u8], &[u8])
+pub fn split_line(text: &[u8]) -> (&[u8], &[u8])
     requires { 0 < length text.now }
     ensures lines { lines text.now ≡ result.0.now ∷ lines result.1.now }
     ensures whole { text.now ≡ result.0.now ++ result.1.now }
@@ -73,7 +73,7 @@ fn split_line(text: &[u8]) -> (&[u8], &[u8])
 }
 
 /// A line without its line feed.
-fn body_of(line: &[u8]) -> &[u8]
+pub fn body_of(line: &[u8]) -> &[u8]
     ensures { result.now ≡ without_feed line.now }
 {
     match place_of(line, b'\n') {

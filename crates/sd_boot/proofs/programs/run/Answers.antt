@@ -1,14 +1,75 @@
-use Rattle.std.proofs.Common.{◌≡◌, ◌⊎◌, ℕ, List, sym, subst}
+use Rattle.std.proofs.Common.{◌≡◌, ◌⊎◌, ◌≤◌, ◌∙◌, ap, sym, subst}
 use Rattle.std.specs.Prelude.{IfSome}
 use Rattle.sd_script.specs.declared.script.Script.{Script}
 use Rattle.sd_script.specs.Grammar.{IsScript}
 use Rattle.sd_boot.specs.declared.status.Status.{Status}
-use Rattle.sd_boot.proofs.Statuses.{script_done}
+use Rattle.sd_boot.specs.declared.words.Program.TheVariants.{Replay, Show, Pack}
+use Rattle.sd_boot.proofs.Performing.{done_by, refused_by, cut_by, complete_by, no_row}
 use Rattle.sd_boot.proofs.programs.run.Goals as goal
 
-pub returns-then-is_replay-clause-complete : goal.returns-then-is_replay-clause-complete
-returns-then-is_replay-clause-complete g c = λ replays calm_source calm_sink.
+pub returns-in-Some-clause-transcript : goal.returns-in-Some-clause-transcript
+returns-in-Some-clause-transcript g c = λ words status.
+    done_by Replay c.in-Some.program c.args.words.now c.perform.result (g.S.Source.left c.args.source.now) (g.K.Sink.written c.args.sink.now) (g.K.Sink.written c.perform.new.sink) words c.in-Some.ensures
+    (ap (λ (s : Status). s.0) (sym c.status_of.ensures) ∙ status) c.perform.ensures.told
+
+pub returns-in-Some-clause-refusal : goal.returns-in-Some-clause-refusal
+returns-in-Some-clause-refusal g c = λ words status.
+    refused_by Replay c.in-Some.program c.args.words.now c.perform.result (g.S.Source.left c.args.source.now) (g.K.Sink.written c.args.sink.now) (g.K.Sink.written c.perform.new.sink) words c.in-Some.ensures
+    (ap (λ (s : Status). s.0) (sym c.status_of.ensures) ∙ status) c.perform.ensures.told
+
+pub returns-in-Some-clause-front : goal.returns-in-Some-clause-front
+returns-in-Some-clause-front g c = λ words status.
+    cut_by Replay c.in-Some.program c.args.words.now c.perform.result (g.S.Source.left c.args.source.now) (g.K.Sink.written c.args.sink.now) (g.K.Sink.written c.perform.new.sink) words c.in-Some.ensures
+    (subst (λ (s : Status). 4 ≤ s.0) c.status_of.ensures status) c.perform.ensures.told
+
+pub returns-in-Some-clause-shown : goal.returns-in-Some-clause-shown
+returns-in-Some-clause-shown g c = λ words status.
+    done_by Show c.in-Some.program c.args.words.now c.perform.result (g.S.Source.left c.args.source.now) (g.K.Sink.written c.args.sink.now) (g.K.Sink.written c.perform.new.sink) words c.in-Some.ensures
+    (ap (λ (s : Status). s.0) (sym c.status_of.ensures) ∙ status) c.perform.ensures.told
+
+pub returns-in-Some-clause-show_refusal : goal.returns-in-Some-clause-show_refusal
+returns-in-Some-clause-show_refusal g c = λ words status.
+    refused_by Show c.in-Some.program c.args.words.now c.perform.result (g.S.Source.left c.args.source.now) (g.K.Sink.written c.args.sink.now) (g.K.Sink.written c.perform.new.sink) words c.in-Some.ensures
+    (ap (λ (s : Status). s.0) (sym c.status_of.ensures) ∙ status) c.perform.ensures.told
+
+pub returns-in-Some-clause-show_front : goal.returns-in-Some-clause-show_front
+returns-in-Some-clause-show_front g c = λ words status.
+    cut_by Show c.in-Some.program c.args.words.now c.perform.result (g.S.Source.left c.args.source.now) (g.K.Sink.written c.args.sink.now) (g.K.Sink.written c.perform.new.sink) words c.in-Some.ensures
+    (subst (λ (s : Status). 4 ≤ s.0) c.status_of.ensures status) c.perform.ensures.told
+
+pub returns-in-Some-clause-packed : goal.returns-in-Some-clause-packed
+returns-in-Some-clause-packed g c = λ words status.
+    done_by Pack c.in-Some.program c.args.words.now c.perform.result (g.S.Source.left c.args.source.now) (g.K.Sink.written c.args.sink.now) (g.K.Sink.written c.perform.new.sink) words c.in-Some.ensures
+    (ap (λ (s : Status). s.0) (sym c.status_of.ensures) ∙ status) c.perform.ensures.told
+
+pub returns-in-Some-clause-pack_refusal : goal.returns-in-Some-clause-pack_refusal
+returns-in-Some-clause-pack_refusal g c = λ words status.
+    refused_by Pack c.in-Some.program c.args.words.now c.perform.result (g.S.Source.left c.args.source.now) (g.K.Sink.written c.args.sink.now) (g.K.Sink.written c.perform.new.sink) words c.in-Some.ensures
+    (ap (λ (s : Status). s.0) (sym c.status_of.ensures) ∙ status) c.perform.ensures.told
+
+pub returns-in-Some-clause-pack_front : goal.returns-in-Some-clause-pack_front
+returns-in-Some-clause-pack_front g c = λ words status.
+    cut_by Pack c.in-Some.program c.args.words.now c.perform.result (g.S.Source.left c.args.source.now) (g.K.Sink.written c.args.sink.now) (g.K.Sink.written c.perform.new.sink) words c.in-Some.ensures
+    (subst (λ (s : Status). 4 ≤ s.0) c.status_of.ensures status) c.perform.ensures.told
+
+pub returns-in-None-clause-front : goal.returns-in-None-clause-front
+returns-in-None-clause-front g c = λ words status. absurd (c.in-None.ensures Replay words)
+
+pub returns-in-None-clause-show_front : goal.returns-in-None-clause-show_front
+returns-in-None-clause-show_front g c = λ words status. absurd (c.in-None.ensures Show words)
+
+pub returns-in-None-clause-pack_front : goal.returns-in-None-clause-pack_front
+returns-in-None-clause-pack_front g c = λ words status. absurd (c.in-None.ensures Pack words)
+
+pub returns-in-None-clause-known : goal.returns-in-None-clause-known
+returns-in-None-clause-known g c = λ row status. no_row c.args.words.now c.in-None.ensures row
+
+pub returns-in-None-clause-complete : goal.returns-in-None-clause-complete
+returns-in-None-clause-complete g c = λ words calm_source calm_sink. absurd (c.in-None.ensures Replay words)
+
+pub returns-in-Some-clause-complete : goal.returns-in-Some-clause-complete
+returns-in-Some-clause-complete g c = λ words calm_source calm_sink.
     subst (λ (s : Status). IfSome (g.S.Source.left c.args.source.now) (λ text. (script : Script) → IsScript text script → (s.0 ≡ 0) ⊎ (s.0 ≡ 5))) (sym c.status_of.ensures)
-    (script_done c.replay.result (g.S.Source.left c.args.source.now) (g.K.Sink.written c.args.sink.now) (g.K.Sink.written c.replay.new.sink)
-    (g.S.Source.faults c.args.source.now) (g.S.Source.faults c.replay.new.source) (g.K.Sink.faults c.args.sink.now) (g.K.Sink.faults c.replay.new.sink)
-    c.replay.ensures.told c.replay.ensures.read c.replay.ensures.write calm_source calm_sink)
+    (complete_by c.in-Some.program c.args.words.now c.perform.result (g.S.Source.left c.args.source.now) (g.K.Sink.written c.args.sink.now) (g.K.Sink.written c.perform.new.sink)
+    (g.S.Source.faults c.args.source.now) (g.S.Source.faults c.perform.new.source) (g.K.Sink.faults c.args.sink.now) (g.K.Sink.faults c.perform.new.sink)
+    words c.in-Some.ensures c.perform.ensures.told c.perform.ensures.read c.perform.ensures.write calm_source calm_sink)
