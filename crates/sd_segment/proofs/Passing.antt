@@ -1,5 +1,5 @@
 -- A segment goes on by one step.
-use Rattle.std.proofs.Common.{◌≡◌, ℕ, zero, suc, ◌+◌, ◌<◌, ◌≤◌, Bool, List, [], ◌∷◌, ◌++◌, length, get_or, take, drop, map, Option, Some, None, refl, sym, ◌∙◌, ap, subst, arith, length-append, append_assoc, inl, inr}
+use Rattle.std.proofs.Common.{◌≡◌, ℕ, zero, suc, ◌+◌, ◌<◌, ◌≤◌, Bool, List, [], ◌∷◌, ◌++◌, length, get_or, take, drop, map, Option, Some, None, refl, sym, ◌∙◌, ap, subst, arith, length-append, inl, inr}
 use Rattle.std.specs.Prelude.{slice_get, ◌⊎◌}
 use Rattle.std.specs.List.{AllByRecursion}
 use Rattle.std.proofs.lemmas.List.{append-nil, take-append-le, length-map}
@@ -8,9 +8,9 @@ use Rattle.sd_outside.specs.declared.packet.Packet.TheVariants.{Frame, Udp}
 use Rattle.sd_link.specs.declared.config.Config.{Config}
 use Rattle.sd_link.specs.declared.events.Fate.{Fate}
 use Rattle.sd_link.specs.Events.{fates_of, fate_in}
-use Rattle.sd_link.specs.World.{World, Flying, Sender, start}
+use Rattle.sd_link.specs.World.{World, Sender, start}
 use Rattle.sd_link.specs.Reply.{out_of}
-use Rattle.sd_link.specs.Steps.{Step, Tick, Send, Serve, Get, Entry, goes_to_server, goes_to_client, world_of, whole_record}
+use Rattle.sd_link.specs.Steps.{Step, Tick, Send, Serve, Get, Entry, goes_to_server, goes_to_client, whole_record}
 use Rattle.sd_link.specs.Lawful.{served_at, got_at, due_to_server, due_to_client, AllGot, IsFrontOf}
 use Rattle.sd_link.specs.Link.{last_tick, IsBounded, NothingWaits}
 use Rattle.sd_link.specs.Text.{record_text}

@@ -1,12 +1,10 @@
-use Rattle.std.proofs.Common.{◌≡◌, ℕ, ◌+◌, ◌≤◌, ◌<◌, List, [], ◌∷◌, ◌++◌, Option, Some, None, Ok, Err, refl, sym, ◌∙◌, ap, subst, arith}
-use Rattle.std.specs.Prelude.{IfSome, ◌⊎◌}
+use Rattle.std.proofs.Common.{ℕ, List, Option, None, sym, ◌∙◌, ap, subst, arith}
 use Rattle.sd_outside.specs.declared.packet.Packet.{Packet}
-use Rattle.sd_link.specs.declared.link.LinkError.TheVariants.{Failed, NoMemory}
-use Rattle.sd_link.specs.Steps.{Step, Get, History, world_of}
-use Rattle.sd_link.specs.Link.{Moves, Receives}
-use Rattle.sd_segment.specs.Segment.{SegmentView, history_of}
-use Rattle.sd_segment.specs.Passing.{Waits, HandsOut, Passes, Advances}
-use Rattle.sd_segment.proofs.Waiting.{waits_none, waits_more, receives_packet, waits_if, receives_none, receives_err}
+use Rattle.sd_link.specs.declared.link.LinkError.TheVariants.{NoMemory}
+use Rattle.sd_link.specs.Steps.{Step}
+use Rattle.sd_segment.specs.Segment.{SegmentView}
+use Rattle.sd_segment.specs.Passing.{Waits, HandsOut}
+use Rattle.sd_segment.proofs.Waiting.{waits_more, receives_packet, waits_if, receives_none, receives_err}
 use Rattle.sd_segment.proofs.segment.Segment.receive.Goals as goal
 
 pub returns-in-Ok-Some-clause-told : goal.returns-in-Ok-Some-clause-told
