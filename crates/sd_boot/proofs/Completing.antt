@@ -1,5 +1,5 @@
 -- In a calm script each command is ok.
-use Rattle.std.proofs.Common.{◌≡◌, ℕ, ◌+◌, ◌*◌, ◌==◌, ◌<◌, ◌≤◌, Bool, true, false, cond, List, [], ◌∷◌, ◌++◌, length, Option, Some, None, refl, sym, ◌∙◌, ap, subst, arith, append_assoc, length-append}
+use Rattle.std.proofs.Common.{◌≡◌, ℕ, ◌*◌, ◌==◌, ◌≤◌, Bool, true, false, cond, List, [], ◌∷◌, ◌++◌, length, Option, Some, None, refl, sym, ◌∙◌, ap, subst, arith, append_assoc, length-append}
 use Rattle.std.proofs.lemmas.List.{append-nil}
 use Rattle.std.specs.List.{flat_map, AllByRecursion}
 use Rattle.sd_outside.specs.declared.packet.Packet.{Packet}
@@ -9,17 +9,17 @@ use Rattle.sd_link.specs.declared.link.Stage.TheVariants as stage
 use Rattle.sd_link.specs.Config.{IsConfig}
 use Rattle.sd_link.specs.Events.{Fates, fates_of, fate_in}
 use Rattle.sd_link.specs.World.{World, start}
-use Rattle.sd_link.specs.Steps.{Step, Tick, Send, Serve, Get, Entry, Sent, Served, Got, after, entries_of, run, record_of, AllAllowed, goes_to_client}
+use Rattle.sd_link.specs.Steps.{Step, Send, Get, Entry, Sent, Served, Got, after, entries_of, run, record_of, AllAllowed, goes_to_client}
 use Rattle.sd_link.specs.Parts.{sends_in, got_in, ticks_in}
-use Rattle.sd_link.specs.Lawful.{IsLawful, AllInTurn, InTurn, AllGot, Settles, SendsSettled, EndsWithGet, IsFrontOf, got_at, due_to_client}
+use Rattle.sd_link.specs.Lawful.{IsLawful, AllInTurn, InTurn, AllGot, Settles, SendsSettled, IsFrontOf, got_at, due_to_client}
 use Rattle.sd_link.proofs.Histories.{run-append, record-append, sends-append, got-append, ticks-append}
 use Rattle.sd_script.specs.declared.script.Script.{Script}
 use Rattle.sd_script.specs.declared.script.Command.{Command}
 use Rattle.sd_script.specs.declared.script.Command.TheVariants.{Addr, Wait}
 use Rattle.sd_script.specs.declared.told.Told.{Told}
 use Rattle.sd_script.specs.declared.told.Told.TheVariants.{AddrOk, AddrTimeout, AddrFlood, AddrLinkFault, WaitOk, WaitFlood, WaitLinkFault}
-use Rattle.sd_claims.specs.Tries.{first_match, or_else, flood_limit, Answered, Flooded, TimedOut}
-use Rattle.sd_claims.specs.Rarp.{rarp_request, told_address}
+use Rattle.sd_claims.specs.Tries.{first_match, or_else}
+use Rattle.sd_claims.specs.Rarp.{told_address}
 use Rattle.sd_claims.specs.Causes.{IsCaused}
 use Rattle.sd_claims.specs.Transcript.{Done, AllCaused}
 use Rattle.sd_claims.specs.Ending.{Ends, AllEnd}

@@ -1,7 +1,6 @@
 -- From a session over a lawful history to the transcript of a script.
-use Rattle.std.proofs.Common.{◌≡◌, ℕ, ◌+◌, ◌*◌, ◌^◌, ◌<◌, ◌≤◌, List, [], ◌∷◌, ◌++◌, length, map, take, Option, Some, None, refl, sym, ◌∙◌, ap, subst, arith, inl, inr}
+use Rattle.std.proofs.Common.{◌≡◌, ℕ, ◌<◌, List, [], ◌∷◌, ◌++◌, take, Option, Some, refl, ap, subst, arith, inl, inr}
 use Rattle.std.specs.Prelude.{◌⊎◌}
-use Rattle.std.specs.List.{flat_map}
 use Rattle.sd_outside.specs.Causes.{Rose}
 use Rattle.sd_outside.specs.Streams.{Gains}
 use Rattle.sd_link.specs.declared.config.Config.{Config}
@@ -10,15 +9,14 @@ use Rattle.sd_link.specs.declared.events.Events.{Events}
 use Rattle.sd_link.specs.Config.{IsConfig, IsFor}
 use Rattle.sd_link.specs.Events.{Fates, fates_of}
 use Rattle.sd_link.specs.World.{World, start}
-use Rattle.sd_link.specs.Steps.{Step, Entry, History, AllAllowed, after, entries_of, run, world_of}
-use Rattle.sd_link.specs.Parts.{ticks_in}
-use Rattle.sd_link.specs.Lawful.{IsLawful, AllInTurn, IsFrontOf}
+use Rattle.sd_link.specs.Steps.{Step, Entry, History, AllAllowed, after, entries_of, world_of}
+use Rattle.sd_link.specs.Lawful.{IsLawful, AllInTurn}
 use Rattle.sd_link.specs.Link.{GoesOn, Moves, last_tick}
 use Rattle.sd_link.proofs.Histories.{world-goes, tick-run}
 use Rattle.sd_script.specs.declared.script.Script.{Script}
 use Rattle.sd_script.specs.declared.script.Command.{Command}
-use Rattle.sd_claims.specs.Machine.{first_state, IsRun}
-use Rattle.sd_claims.specs.Transcript.{Done, AllCaused, transcript}
+use Rattle.sd_claims.specs.Machine.{first_state}
+use Rattle.sd_claims.specs.Transcript.{Done, AllCaused}
 use Rattle.sd_claims.specs.Ending.{AllEnd}
 use Rattle.sd_claims.specs.Session.{parts_of, IsSession, IsCutSession}
 use Rattle.sd_claims.specs.Headline.{AreDone, Plays, PlaysFront, written}

@@ -1,31 +1,30 @@
 -- A lawful run over a network that loses, delays and repeats nothing, followed by its stages.
-use Rattle.std.proofs.Common.{◌≡◌, ℕ, zero, suc, ◌+◌, ◌==◌, ◌^◌, ◌<◌, ◌≤◌, Bool, true, false, cond, List, [], ◌∷◌, ◌++◌, length, map, Option, Some, None, Result, Ok, Err, refl, sym, ◌∙◌, ap, subst, arith, append_assoc, length-append}
+use Rattle.std.proofs.Common.{◌≡◌, ℕ, zero, suc, ◌+◌, ◌==◌, ◌<◌, ◌≤◌, Bool, true, false, cond, List, [], ◌∷◌, ◌++◌, length, map, Option, Some, None, Result, refl, sym, ◌∙◌, ap, subst, arith, append_assoc, length-append}
 use Rattle.std.proofs.lemmas.List.{append-nil, take-append-le, take_all}
 use Rattle.std.proofs.lemmas.Slice.Eq.{bytes_eq-Decides}
-use Rattle.std.specs.Prelude.{slice_get, take, replicate, IsTrue}
+use Rattle.std.specs.Prelude.{slice_get, take, replicate}
 use Rattle.std.specs.Int.{w32, to_be_bytes}
 use Rattle.std.specs.Option.{option_map}
-use Rattle.std.specs.Str.{bytes_eq}
-use Rattle.std.specs.List.{flat_map, filter, enumerate_from, AllByRecursion}
+use Rattle.std.specs.List.{flat_map, enumerate_from, AllByRecursion}
 use Rattle.sd_outside.specs.declared.packet.Mac.{Mac}
 use Rattle.sd_outside.specs.declared.packet.Packet.{Packet}
-use Rattle.sd_outside.specs.declared.packet.Packet.TheVariants.{Frame, Udp}
+use Rattle.sd_outside.specs.declared.packet.Packet.TheVariants.{Frame}
 use Rattle.sd_rarp.specs.declared.frame.RarpFrame.{RarpFrame}
-use Rattle.sd_rarp.specs.declared.frame.RarpFrame.TheVariants.{Request, Reply}
+use Rattle.sd_rarp.specs.declared.frame.RarpFrame.TheVariants.{Reply}
 use Rattle.sd_rarp.specs.declared.frame.RarpError.{RarpError}
-use Rattle.sd_rarp.specs.Frame.{reading, frame_bytes, fixed_part}
-use Rattle.sd_rarp.specs.Answer.{is_mac, answer_of, reply_with, address_of}
+use Rattle.sd_rarp.specs.Frame.{frame_bytes, fixed_part}
+use Rattle.sd_rarp.specs.Answer.{is_mac, reply_with}
 use Rattle.sd_rarp.proofs.RoundTrip.{reading-reply, reading-request}
 use Rattle.sd_link.specs.declared.config.Config.{Config}
 use Rattle.sd_link.specs.Config.{IsConfig}
 use Rattle.sd_link.specs.Events.{Fates, fate_in}
 use Rattle.sd_link.specs.World.{World, Flying, Sender, Client, Server, start, sent_by}
-use Rattle.sd_link.specs.Reply.{rarp_out, rarp_answer, as_frame, out_of, next_of}
-use Rattle.sd_link.specs.Steps.{Step, Tick, Send, Serve, Get, Entry, Sent, Served, Got, after, served, replies_to, sent_from, entries_of, run, record_of, Allowed, AllAllowed, IsDeliverable, goes_to_server, goes_to_client, reaches_server, reaches_client}
+use Rattle.sd_link.specs.Reply.{rarp_answer, as_frame, out_of}
+use Rattle.sd_link.specs.Steps.{Step, Tick, Send, Serve, Get, Entry, Sent, Served, Got, after, served, replies_to, sent_from, entries_of, run, record_of, Allowed, AllAllowed, goes_to_server, goes_to_client, reaches_server, reaches_client}
 use Rattle.sd_link.specs.Parts.{sends_in, got_in}
 use Rattle.sd_link.specs.Lawful.{InTurn, AllInTurn, AllGot, SendsSettled, IsFrontOf, served_at, got_at, due, due_to_server, due_to_client, copies_at}
 use Rattle.sd_claims.specs.Rarp.{rarp_request, told_address, address_in, broadcast_mac}
-use Rattle.sd_boot.proofs.Stages.{Stages, Goes, AllGo, Ticked, Sends, Serves, Gets}
+use Rattle.sd_boot.proofs.Stages.{Stages, Goes, AllGo}
 
 -- without fates each packet comes once, a tick after it was sent
 abbrev pub plain : Fates

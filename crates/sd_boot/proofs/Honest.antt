@@ -1,25 +1,24 @@
 -- The server tells the client its configured address and no other.
-use Rattle.std.proofs.Common.{◌≡◌, ℕ, zero, suc, ◌+◌, ◌^◌, ◌<◌, ◌≤◌, Bool, true, false, cond, List, [], ◌∷◌, ◌++◌, length, map, Option, Some, None, Result, Ok, Err, refl, sym, ◌∙◌, ap, subst, arith}
+use Rattle.std.proofs.Common.{◌≡◌, ℕ, zero, suc, Bool, true, false, cond, List, [], ◌∷◌, ◌++◌, length, map, Option, Some, None, Result, Ok, Err, refl, sym, ◌∙◌, ap, subst, arith}
 use Rattle.std.specs.Prelude.{slice_get}
 use Rattle.std.specs.Option.{option_map}
-use Rattle.std.specs.List.{flat_map, AllByRecursion}
+use Rattle.std.specs.List.{AllByRecursion}
 use Rattle.sd_outside.specs.declared.packet.Mac.{Mac}
 use Rattle.sd_outside.specs.declared.packet.Packet.{Packet}
 use Rattle.sd_outside.specs.declared.packet.Packet.TheVariants.{Frame, Udp}
 use Rattle.sd_rarp.specs.declared.frame.RarpFrame.{RarpFrame}
 use Rattle.sd_rarp.specs.declared.frame.RarpFrame.TheVariants.{Request, Reply}
 use Rattle.sd_rarp.specs.declared.frame.RarpError.{RarpError}
-use Rattle.sd_rarp.specs.Frame.{reading, frame_bytes, mac_at}
-use Rattle.sd_rarp.specs.Answer.{is_mac, answer_of, reply_with, address_of}
+use Rattle.sd_rarp.specs.Frame.{reading, frame_bytes}
+use Rattle.sd_rarp.specs.Answer.{is_mac, reply_with, address_of}
 use Rattle.sd_rarp.proofs.RoundTrip.{reading-reply}
 use Rattle.sd_rarp.proofs.Fields.{request_at, mac_wide}
 use Rattle.sd_link.specs.declared.config.Config.{Config}
 use Rattle.sd_link.specs.Config.{IsConfig}
-use Rattle.sd_link.specs.World.{World, Flying, Sender, Client, Server, start, sent_by}
-use Rattle.sd_link.specs.Reply.{rarp_out, rarp_answer, as_frame, out_of}
-use Rattle.sd_link.specs.Steps.{Step, Tick, Send, Serve, Get, after, served, run, Allowed, AllAllowed, IsDeliverable, goes_to_client}
+use Rattle.sd_link.specs.World.{World, Flying, Sender, Client, Server}
+use Rattle.sd_link.specs.Reply.{rarp_answer, as_frame, out_of}
+use Rattle.sd_link.specs.Steps.{Step, Tick, Send, Serve, Get, after, served, run, AllAllowed, goes_to_client}
 use Rattle.sd_link.specs.Parts.{got_in}
-use Rattle.sd_link.proofs.Histories.{run-append}
 use Rattle.sd_script.specs.declared.script.Command.{Command}
 use Rattle.sd_script.specs.declared.script.Command.TheVariants.{Addr, Wait}
 use Rattle.sd_script.specs.declared.told.Told.{Told}

@@ -1,11 +1,10 @@
 -- What a status says of how a run ended.
-use Rattle.std.proofs.Common.{◌≡◌, ℕ, ◌≤◌, List, Option, Some, None, Result, Ok, Err, refl, sym, ◌∙◌, ap, subst, arith, inl, inr}
+use Rattle.std.proofs.Common.{◌≡◌, ℕ, ◌≤◌, List, Option, Some, None, Result, Ok, Err, refl, arith, inl, inr}
 use Rattle.std.specs.Prelude.{◌⊎◌, IsErrOf, IfSome}
 use Rattle.sd_outside.specs.Causes.{Rose}
 use Rattle.sd_script.specs.declared.script.Script.{Script}
 use Rattle.sd_script.specs.Grammar.{IsScript}
 use Rattle.sd_script.proofs.OneScript.{never_both}
-use Rattle.sd_outside.specs.Streams.{Gains}
 use Rattle.sd_claims.specs.Headline.{IsTranscript, IsRefusal, IsFront, Writes}
 use Rattle.sd_boot.specs.declared.status.Ended.{Ended}
 use Rattle.sd_boot.specs.declared.status.Ended.TheVariants.{Done, Refused, Usage}

@@ -1,5 +1,5 @@
 -- What a pause shows, packet by packet.
-use Rattle.std.proofs.Common.{◌≡◌, ℕ, ◌+◌, ◌<◌, ◌≤◌, List, [], ◌∷◌, ◌++◌, length, Option, Some, None, Ok, Err, refl, sym, ◌∙◌, ap, subst, arith}
+use Rattle.std.proofs.Common.{◌≡◌, ℕ, ◌+◌, ◌<◌, List, ◌++◌, Option, None, Ok, Err, arith}
 use Rattle.sd_link.specs.Steps.{Step, History, world_of}
 use Rattle.sd_link.specs.declared.link.LinkError.{LinkError}
 use Rattle.sd_link.specs.Link.{GoesOn, Moves, Receives, IsNow}

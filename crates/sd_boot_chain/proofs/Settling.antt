@@ -1,5 +1,5 @@
 -- Where nothing waits for the client.
-use Rattle.std.proofs.Common.{◌≡◌, ℕ, List, [], ◌∷◌, ◌++◌, refl, sym, ◌∙◌, ap, subst, append_assoc}
+use Rattle.std.proofs.Common.{◌≡◌, List, [], ◌∷◌, ◌++◌, sym, ◌∙◌, ap, subst, append_assoc}
 use Rattle.std.proofs.lemmas.List.{append-nil}
 use Rattle.sd_outside.specs.declared.packet.Packet.{Packet}
 use Rattle.sd_link.specs.declared.config.Config.{Config}
@@ -24,25 +24,23 @@ settles-append c fates w entries xs ys settled =
     subst (λ (v : World). AllGot c fates v (entries ++ record_of c w (xs ++ ys))) (sym (run-append c w xs ys))
     (subst (λ (l : List Entry). AllGot c fates (run c (run c w xs) ys) l) (append_assoc entries first second ∙ ap (λ (l : List Entry). entries ++ l) (sym (record-append c w xs ys))) settled)
 
+-- what holds after a step and others holds after the step, and then after the others
+deeper : (c : Config) (fates : Fates) (w : World) (entries : List Entry) (x : Step) (xs ys : List Step) → SendsSettled c fates (run c (after c w x) xs) (entries ++ (entries_of c w x ++ record_of c (after c w x) xs)) ys
+    → SendsSettled c fates (run c (after c w x) xs) ((entries ++ entries_of c w x) ++ record_of c (after c w x) xs) ys
+deeper c fates w entries x xs ys second =
+    subst (λ (l : List Entry). SendsSettled c fates (run c (after c w x) xs) l ys) (sym (append_assoc entries (entries_of c w x) (record_of c (after c w x) xs))) second
+
 sends-append : (c : Config) (fates : Fates) (w : World) (entries : List Entry) (xs ys : List Step) → SendsSettled c fates w entries xs → SendsSettled c fates (run c w xs) (entries ++ record_of c w xs) ys
     → SendsSettled c fates w entries (xs ++ ys)
 sends-append c fates w entries [] ys first second = subst (λ (l : List Entry). SendsSettled c fates w l ys) (append-nil entries) second
-sends-append c fates w entries (Tick ∷ xs) ys first second = sends-append c fates (after c w Tick) (entries ++ entries_of c w Tick) xs ys first (deeper c fates w entries Tick xs ys second)
-  where
-    deeper : (c : Config) (fates : Fates) (w : World) (entries : List Entry) (x : Step) (xs ys : List Step) → SendsSettled c fates (run c (after c w x) xs) (entries ++ (entries_of c w x ++ record_of c (after c w x) xs)) ys
-        → SendsSettled c fates (run c (after c w x) xs) ((entries ++ entries_of c w x) ++ record_of c (after c w x) xs) ys
-    deeper c fates w entries x xs ys second = subst (λ (l : List Entry). SendsSettled c fates (run c (after c w x) xs) l ys) (sym (append_assoc entries (entries_of c w x) (record_of c (after c w x) xs))) second
-sends-append c fates w entries (Send packet ∷ xs) ys first second = (
-  first.0,
-  sends-append c fates (after c w (Send packet)) (entries ++ entries_of c w (Send packet)) xs ys first.1
-      (subst (λ (l : List Entry). SendsSettled c fates (run c (after c w (Send packet)) xs) l ys) (sym (append_assoc entries (entries_of c w (Send packet)) (record_of c (after c w (Send packet)) xs))) second),
-)
+sends-append c fates w entries (Tick ∷ xs) ys first second =
+    sends-append c fates (after c w Tick) (entries ++ entries_of c w Tick) xs ys first (deeper c fates w entries Tick xs ys second)
+sends-append c fates w entries (Send packet ∷ xs) ys first second =
+    (first.0, sends-append c fates (after c w (Send packet)) (entries ++ entries_of c w (Send packet)) xs ys first.1 (deeper c fates w entries (Send packet) xs ys second))
 sends-append c fates w entries (Serve id ∷ xs) ys first second =
-    sends-append c fates (after c w (Serve id)) (entries ++ entries_of c w (Serve id)) xs ys first
-    (subst (λ (l : List Entry). SendsSettled c fates (run c (after c w (Serve id)) xs) l ys) (sym (append_assoc entries (entries_of c w (Serve id)) (record_of c (after c w (Serve id)) xs))) second)
+    sends-append c fates (after c w (Serve id)) (entries ++ entries_of c w (Serve id)) xs ys first (deeper c fates w entries (Serve id) xs ys second)
 sends-append c fates w entries (Get id packet ∷ xs) ys first second =
-    sends-append c fates (after c w (Get id packet)) (entries ++ entries_of c w (Get id packet)) xs ys first
-    (subst (λ (l : List Entry). SendsSettled c fates (run c (after c w (Get id packet)) xs) l ys) (sym (append_assoc entries (entries_of c w (Get id packet)) (record_of c (after c w (Get id packet)) xs))) second)
+    sends-append c fates (after c w (Get id packet)) (entries ++ entries_of c w (Get id packet)) xs ys first (deeper c fates w entries (Get id packet) xs ys second)
 
 -- who sends nothing sends where nothing waits
 pub silent-settled : (c : Config) (fates : Fates) (w : World) (entries : List Entry) (xs : List Step) → sends_in xs ≡ [] → SendsSettled c fates w entries xs

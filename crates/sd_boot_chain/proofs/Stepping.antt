@@ -1,7 +1,6 @@
 -- The text of one command, and the transcript of one command more.
-use Rattle.std.proofs.Common.{◌≡◌, ℕ, ◌+◌, ◌≤◌, List, [], ◌∷◌, ◌++◌, length, take, Option, Some, None, Result, Ok, Err, refl, sym, ◌∙◌, ap, subst, arith, append_assoc}
+use Rattle.std.proofs.Common.{◌≡◌, ℕ, ◌+◌, List, [], ◌∷◌, ◌++◌, take, Option, Some, None, refl, sym, ◌∙◌, ap, subst, append_assoc}
 use Rattle.std.specs.Prelude.{IfSome}
-use Rattle.std.specs.List.{flat_map}
 use Rattle.std.proofs.lemmas.Grind.{flat_map-append}
 use Rattle.std.proofs.lemmas.List.{append-nil, append_cancel_left}
 use Rattle.sd_outside.specs.Streams.{Gains}
@@ -10,11 +9,11 @@ use Rattle.sd_link.specs.declared.config.ClientConfig.{ClientConfig}
 use Rattle.sd_link.specs.declared.events.Events.{Events}
 use Rattle.sd_link.specs.Events.{Fates, fates_of}
 use Rattle.sd_link.specs.Config.{IsFor}
-use Rattle.sd_link.specs.World.{World, start}
+use Rattle.sd_link.specs.World.{World}
 use Rattle.sd_link.specs.Steps.{Step, Entry, History, world_of, whole_record, record_of, run}
 use Rattle.sd_link.specs.Text.{record_text, entry_text}
-use Rattle.sd_link.specs.Link.{GoesOn, Moves, Drains}
-use Rattle.sd_link.proofs.Histories.{record-append, record-goes, run-append, world-goes, moves_then, moves_weaker}
+use Rattle.sd_link.specs.Link.{GoesOn, Moves}
+use Rattle.sd_link.proofs.Histories.{record-append, record-goes, run-append, world-goes, moves_weaker}
 use Rattle.sd_script.specs.declared.script.Command.{Command}
 use Rattle.sd_script.specs.declared.told.Told.{Told}
 use Rattle.sd_script.specs.Answers.{answer_line}

@@ -1,5 +1,5 @@
 -- Tries in vain, and the one that ends them.
-use Rattle.std.proofs.Common.{◌≡◌, ℕ, ◌+◌, ◌<◌, ◌≤◌, List, [], ◌∷◌, ◌++◌, length, Option, Some, None, refl, sym, ◌∙◌, ap, subst, arith, length-append}
+use Rattle.std.proofs.Common.{◌≡◌, ℕ, ◌+◌, ◌<◌, List, [], ◌∷◌, ◌++◌, length, Option, Some, None, refl, sym, ◌∙◌, ap, subst, arith, length-append}
 use Rattle.std.specs.List.{flat_map, AllByRecursion}
 use Rattle.std.proofs.lemmas.Grind.{flat_map-append}
 use Rattle.std.proofs.lemmas.List.{append-nil}
@@ -13,13 +13,13 @@ use Rattle.sd_link.specs.Parts.{sends_in, got_in, ticks_in}
 use Rattle.sd_link.specs.declared.link.Stage.{Stage}
 use Rattle.sd_link.specs.Link.{GoesOn, Moves, NothingWaits, IsSettledBy}
 use Rattle.sd_link.proofs.Histories.{got-append}
-use Rattle.sd_script.specs.declared.told.Told.TheVariants.{AddrOk, AddrTimeout, AddrFlood}
+use Rattle.sd_script.specs.declared.told.Told.TheVariants.{AddrOk, AddrFlood}
 use Rattle.sd_claims.specs.Ending.{EndsAfter}
 use Rattle.sd_claims.specs.Tries.{first_match, flood_limit, IsTries, AreInVain, Asks, Answered, Flooded, TimedOut}
 use Rattle.sd_claims.specs.Rarp.{told_address}
 use Rattle.sd_boot_chain.specs.declared.address.Heard.{Heard}
 use Rattle.sd_boot_chain.specs.declared.address.Heard.TheVariants.{Address, Nothing, Flood}
-use Rattle.sd_boot_chain.specs.Client.{Tried, IsTry, EndsTry}
+use Rattle.sd_boot_chain.specs.Client.{Tried, EndsTry}
 use Rattle.sd_boot_chain.proofs.Listening.{first_match-append}
 use Rattle.sd_boot_chain.proofs.Settling.{SendsIn, ends_later, settled-none, settled-then, sends-try}
 

@@ -1,7 +1,6 @@
 -- What one command of a session does.
 use Rattle.std.specs.Prelude.{◌≡◌, ℕ, List, ◌++◌}
 use Rattle.sd_link.specs.declared.config.ClientConfig.{ClientConfig}
-use Rattle.sd_link.specs.declared.link.Stage.{Stage}
 use Rattle.sd_link.specs.Config.{IsFor}
 use Rattle.sd_link.specs.Steps.{Step, History, world_of, whole_record, record_of}
 use Rattle.sd_link.specs.Text.{record_text}

@@ -1,5 +1,5 @@
 -- How a command ends: what waits for the client where it sends, and where the command is over.
-use Rattle.std.specs.Prelude.{ℕ, List, [], ◌∷◌, ◌++◌}
+use Rattle.std.specs.Prelude.{List, [], ◌∷◌, ◌++◌}
 use Rattle.sd_link.specs.declared.config.Config.{Config}
 use Rattle.sd_link.specs.Events.{Fates, fates_of}
 use Rattle.sd_link.specs.World.{World}

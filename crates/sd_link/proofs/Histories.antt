@@ -1,10 +1,10 @@
 -- Steps one after another, and histories that go on.
-use Rattle.std.proofs.Common.{◌≡◌, ℕ, ◌+◌, ◌<◌, ◌≤◌, List, [], ◌∷◌, ◌++◌, Option, Some, None, slice_get, refl, sym, ◌∙◌, ap, subst, arith, append_assoc}
+use Rattle.std.proofs.Common.{◌≡◌, ℕ, ◌+◌, ◌≤◌, List, [], ◌∷◌, ◌++◌, Option, Some, None, slice_get, refl, sym, ◌∙◌, ap, subst, arith, append_assoc}
 use Rattle.std.proofs.lemmas.List.{append-nil}
 use Rattle.sd_outside.specs.declared.packet.Packet.{Packet}
 use Rattle.sd_link.specs.declared.config.Config.{Config}
 use Rattle.sd_link.specs.World.{World, Flying, start}
-use Rattle.sd_link.specs.Steps.{Step, Tick, Send, Serve, Get, Entry, after, entries_of, run, AllAllowed, record_of, served, History, world_of, whole_record, IsLawfulSoFar}
+use Rattle.sd_link.specs.Steps.{Step, Tick, Send, Serve, Get, Entry, after, entries_of, run, AllAllowed, record_of, served, History, world_of, whole_record}
 use Rattle.sd_link.specs.Parts.{sends_in, got_in, ticks_in}
 use Rattle.sd_link.specs.Link.{GoesOn, Moves, TicksBefore, NothingWaits, IsSettledBy}
 use Rattle.sd_link.specs.declared.events.Events.{Events}

@@ -1,7 +1,5 @@
-use Rattle.std.proofs.Common.{◌≡◌, ℕ, ◌+◌, ◌*◌, ◌≤◌, List, ◌++◌, Option, Some, None, Ok, Err, refl, sym, ◌∙◌, subst, arith}
-use Rattle.sd_outside.specs.declared.packet.Mac.{Mac}
+use Rattle.std.proofs.Common.{◌≡◌, ◌+◌, ◌*◌, ◌++◌, refl, ◌∙◌, subst, arith}
 use Rattle.sd_link.specs.Config.{IsFor}
-use Rattle.sd_link.specs.Steps.{Step, History}
 use Rattle.sd_link.proofs.Histories.{moves_not, moves_then, moves_weaker}
 use Rattle.sd_link.specs.declared.link.Stage.TheVariants as stage
 use Rattle.sd_script.specs.declared.script.Command.TheVariants.{Addr}
@@ -9,7 +7,7 @@ use Rattle.sd_script.specs.declared.told.Told.TheVariants.{AddrOk, AddrTimeout, 
 use Rattle.sd_claims.specs.Tries.{Answered, Flooded, TimedOut}
 use Rattle.sd_claims.specs.Rarp.{told_address, rarp_request}
 use Rattle.sd_boot_chain.specs.declared.address.Heard.TheVariants.{Address, Nothing, Flood}
-use Rattle.sd_boot_chain.specs.Client.{Tried, Lasts, most_ticks}
+use Rattle.sd_boot_chain.specs.Client.{Tried, most_ticks}
 use Rattle.sd_boot_chain.specs.Step.{IsAnswered}
 use Rattle.sd_boot_chain.proofs.Lasting.{lasts_none, lasts_then, lasts_more}
 use Rattle.sd_boot_chain.proofs.Trying.{Vain, vain_none, vain_more, earned, earned_ends, flooded, flooded_ends, timed_out, as_config, heard_is}

@@ -1,4 +1,4 @@
-use Rattle.std.proofs.Common.{◌≡◌, ℕ, ◌≤◌, List, [], ◌++◌, Option, refl, sym, ◌∙◌, ap, subst, arith}
+use Rattle.std.proofs.Common.{ℕ, List, ◌++◌, Option, sym, ◌∙◌, ap, subst}
 use Rattle.sd_outside.specs.Causes.{Rose}
 use Rattle.sd_link.specs.Config.{IsFor}
 use Rattle.sd_link.specs.Steps.{History}

@@ -1,4 +1,4 @@
-use Rattle.std.proofs.Common.{◌≡◌, ◌≤◌, ℕ, List, Option, Result, Ok, Err, refl, sym, ◌∙◌, ap, subst, rules}
+use Rattle.std.proofs.Common.{ℕ, Option, Result, sym, subst}
 use Rattle.std.specs.Prelude.{IfOk}
 use Rattle.std.proofs.lemmas.Result.{IfOk-weaker}
 use Rattle.sd_outside.specs.declared.errors.NoMemory.{NoMemory}
