@@ -123,14 +123,11 @@ fn shows_and_packs_the_rows(rt: HostRuntime) -> Result<(), Fail> {
 }
 
 #[test]
-fn tells_what_failed(rt: HostRuntime) -> Result<(), Fail> {
-    let alloc = rt.alloc();
-    let unknown = words(alloc, &["replay", "now"])?;
-    let known = words(alloc, &["replay"])?;
-
-    let mut source = CalmSource::new(alloc, b"")?;
-    let mut sink = CalmSink::new(alloc, 65_536)?;
-    let status = run(alloc, unknown.as_slice(), &mut source, &mut sink);
+fn writes_the_usage_line(rt: HostRuntime) -> Result<(), Fail> {
+    let words = words(rt.alloc(), &["replay", "now"])?;
+    let mut source = CalmSource::new(rt.alloc(), b"")?;
+    let mut sink = CalmSink::new(rt.alloc(), 65_536)?;
+    let status = run(rt.alloc(), words.as_slice(), &mut source, &mut sink);
     assert_eq!(rt; status, Status(2));
     assert_eq!(rt;
         sink.bytes(),
@@ -138,23 +135,38 @@ fn tells_what_failed(rt: HostRuntime) -> Result<(), Fail> {
             b"usage: replay, show, pack, image make, image show, workload N, serve, client\n".as_slice()
         )
     );
+    Ok(())
+}
 
-    let mut source = MemSource::new(alloc, ROW_2.input, 7, &[0])?;
-    let mut sink = MemSink::new(alloc, 5, &[])?;
-    let status = run(alloc, known.as_slice(), &mut source, &mut sink);
-    assert_eq!(rt; status, Status(3));
-    assert_eq!(rt; sink.bytes(), b"".as_slice());
+/// What `replay` of the one address writes, and its status, where these calls of the source and of the sink fail.
+fn ran_failing(alloc: Global, reads: &[u64], writes: &[u64]) -> Result<(u8, ByteList), Fail> {
+    let words = words(alloc, &["replay"])?;
+    let mut source = MemSource::new(alloc, ROW_2.input, 7, reads)?;
+    let mut sink = MemSink::new(alloc, 5, writes)?;
+    let status = run(alloc, words.as_slice(), &mut source, &mut sink);
+    Ok((status.0, ByteList::from_slice(alloc, sink.bytes())?))
+}
 
-    let mut source = MemSource::new(alloc, ROW_2.input, 7, &[])?;
-    let mut sink = MemSink::new(alloc, 5, &[0])?;
-    let status = run(alloc, known.as_slice(), &mut source, &mut sink);
-    assert_eq!(rt; status, Status(4));
-    assert_eq!(rt; sink.bytes(), b"".as_slice());
+#[test]
+fn tells_a_read_that_failed(rt: HostRuntime) -> Result<(), Fail> {
+    let (status, output) = ran_failing(rt.alloc(), &[0], &[])?;
+    assert_eq!(rt; status, 3);
+    assert_eq!(rt; output.as_slice(), b"".as_slice());
+    Ok(())
+}
 
-    let mut source = MemSource::new(alloc, ROW_2.input, 7, &[])?;
-    let mut sink = MemSink::new(alloc, 5, &[])?;
-    let status = run(alloc, known.as_slice(), &mut source, &mut sink);
-    assert_eq!(rt; status, Status(0));
-    assert_eq!(rt; sink.bytes(), ROW_2.output);
+#[test]
+fn tells_a_write_that_failed(rt: HostRuntime) -> Result<(), Fail> {
+    let (status, output) = ran_failing(rt.alloc(), &[], &[0])?;
+    assert_eq!(rt; status, 4);
+    assert_eq!(rt; output.as_slice(), b"".as_slice());
+    Ok(())
+}
+
+#[test]
+fn goes_on_by_short_steps(rt: HostRuntime) -> Result<(), Fail> {
+    let (status, output) = ran_failing(rt.alloc(), &[], &[])?;
+    assert_eq!(rt; status, 0);
+    assert_eq!(rt; output.as_slice(), ROW_2.output);
     Ok(())
 }
