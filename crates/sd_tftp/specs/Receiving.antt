@@ -1,88 +1,93 @@
--- What a receiver does with a packet (RFC 1350, sections 2, 4 and 6).
-use Rattle.std.specs.Prelude.{◌≡◌, ℕ, ◌+◌, ◌*◌, nat_lt, ◌==◌, ◌&&◌, not, if◌then◌else◌, List, [], ◌∷◌, ◌++◌, length, Option, Some, None, Bool, true, false, Result, Ok, Err}
+-- What a receiver does with a packet (RFC 1350, sections 2, 4, 5 and 6): which answer a packet gets, and what it changes.
+use Rattle.std.specs.Prelude.{◌≡◌, ◌≢◌, ℕ, ◌+◌, ◌*◌, ◌<◌, ◌≤◌, nat_lt, List, length, Option, Some, None, Bool, true, false}
 use Rattle.sd_outside.specs.declared.packet.Addr.{Addr}
 use Rattle.sd_tftp.specs.declared.packet.TftpPacket.{TftpPacket}
-use Rattle.sd_tftp.specs.declared.packet.TftpPacket.TheVariants.{Rrq, Wrq, Block, Ack, Error}
+use Rattle.sd_tftp.specs.declared.packet.TftpPacket.TheVariants.{Block, Error}
 use Rattle.sd_tftp.specs.declared.step.Step.{Step}
 use Rattle.sd_tftp.specs.declared.step.Step.TheVariants.{Ignored, Stranger, Again, Took, Refused, Over}
-use Rattle.sd_tftp.specs.Reception.{Reception}
+use Rattle.sd_tftp.specs.Reception.{Reception, with_block, closed}
 
--- what it says, and what it is then
-pub record Turn : Type 0 where
-  pub says : Step
-  pub becomes : Reception
+-- Section 4: the port of block 1 is the server's transfer identifier. Until it is known any port is right.
+abbrev pub IsRightPort : Option ℕ → ℕ → Type 0
+IsRightPort None port = Unit {0}
+IsRightPort (Some peer) port = port ≡ peer
 
-abbrev pub ignored : Reception → Turn
-ignored old = record { says = Ignored; becomes = old }
+-- It goes on, and hears the server at this address and port.
+pub record Hears (old : Reception) (from : Addr) : Type 0 where
+  pub going : old.ended ≡ false
+  pub ip : from.ip ≡ old.server
+  pub port : IsRightPort old.peer from.port
 
--- at the start
-abbrev pub fresh : ℕ → Reception
-fresh ip = record { server = ip; peer = None; blocks = []; ended = false }
+-- the number of the block that it waits for
+abbrev pub awaited : Reception → ℕ
+awaited old = length old.blocks + 1
 
--- the blocks with one more, from this port
-abbrev pub with_block : Reception → ℕ → List ℕ → Bool → Reception
-with_block old source body over = record { server = old.server; peer = Some source; blocks = old.blocks ++ body ∷ []; ended = over }
+-- The packet is the awaited block, with these bytes. No packet has a block above 512 bytes.
+pub record Brings (old : Reception) (from : Addr) (packet : TftpPacket) (body : List ℕ) : Type 0 where
+  pub heard : Hears old from
+  pub packet_is : packet ≡ Block (awaited old) body
+  pub fits : length body ≤ 512
 
--- A block below 512 bytes is the last. Block 65,535 has no number after it.
-abbrev pub taking : Reception → Addr → List ℕ → Turn
-taking old from body =
-    if nat_lt (length body) 512 then record { says = Took from (length old.blocks + 1) true; becomes = with_block old from.port body true } else
-    (if length old.blocks + 1 == 65535 then record { says = Over (512 * 65535); becomes = with_block old from.port body true } else
-    record { says = Took from (length old.blocks + 1) false; becomes = with_block old from.port body false })
+-- It takes the awaited block, and ACKs it. One below 512 bytes is the last.
+pub record IsTaken (old : Reception) (from : Addr) (packet : TftpPacket) (to : Addr) (n : ℕ) (last : Bool) : Type 0 where
+  pub body : List ℕ
+  pub brings : Brings old from packet body
+  pub to_is : to ≡ from
+  pub number : n ≡ awaited old
+  pub short : last ≡ nat_lt (length body) 512
+  -- a further block has a number
+  pub next : last ≡ false → n ≢ 65535
 
-abbrev pub refused : Reception → ℕ → Turn
-refused old n = record { says = Refused n; becomes = record old { ended = true } }
+-- It takes the awaited block, which isn't the last and has the last number.
+pub record IsTooMuch (old : Reception) (from : Addr) (packet : TftpPacket) (got : ℕ) : Type 0 where
+  pub body : List ℕ
+  pub brings : Brings old from packet body
+  pub whole : length body ≡ 512
+  pub number : awaited old ≡ 65535
+  pub got_is : got ≡ 512 * 65535
 
--- the block that it waits for; no packet has a longer one
-abbrev pub is_awaited : Reception → ℕ → List ℕ → Bool
-is_awaited old n body = (n == length old.blocks + 1) && not (nat_lt 512 (length body))
+-- Its peer sends the last block that was taken once more, so the ACK was lost or late: it is sent again.
+pub record IsAgain (old : Reception) (from : Addr) (packet : TftpPacket) (to : Addr) (n : ℕ) : Type 0 where
+  pub body : List ℕ
+  pub going : old.ended ≡ false
+  pub ip : from.ip ≡ old.server
+  pub port : old.peer ≡ Some from.port
+  pub packet_is : packet ≡ Block n body
+  pub number : n ≡ length old.blocks
+  pub to_is : to ≡ from
 
--- before the first block: block 1 or an ERROR, from any port of the server
-abbrev pub first : Reception → Addr → TftpPacket → Turn
-first old from (Block n body) = if is_awaited old n body then taking old from body else ignored old
-first old from (Error n text) = refused old n
-first old from (Ack n) = ignored old
-first old from (Rrq filename mode_text) = ignored old
-first old from (Wrq filename mode_text) = ignored old
+-- Section 5: an ERROR ends the transfer.
+pub record IsRefused (old : Reception) (from : Addr) (packet : TftpPacket) (code_no : ℕ) : Type 0 where
+  pub text : List ℕ
+  pub heard : Hears old from
+  pub packet_is : packet ≡ Error code_no text
 
--- from the peer: the awaited block, the last block taken once more, or an ERROR
-abbrev pub from_peer : Reception → Addr → TftpPacket → Turn
-from_peer old from (Block n body) =
-    if is_awaited old n body then taking old from body else
-    (if n == length old.blocks then record { says = Again from n; becomes = old } else ignored old)
-from_peer old from (Error n text) = refused old n
-from_peer old from (Ack n) = ignored old
-from_peer old from (Rrq filename mode_text) = ignored old
-from_peer old from (Wrq filename mode_text) = ignored old
+-- Section 4: a block from another port of the server, which gets an ERROR 5 and disturbs nothing.
+pub record IsStranger (old : Reception) (from : Addr) (packet : TftpPacket) (to : Addr) : Type 0 where
+  pub n : ℕ
+  pub body : List ℕ
+  pub peer_port : ℕ
+  pub going : old.ended ≡ false
+  pub ip : from.ip ≡ old.server
+  pub peer : old.peer ≡ Some peer_port
+  pub other : from.port ≢ peer_port
+  pub packet_is : packet ≡ Block n body
+  pub to_is : to ≡ from
 
--- from another port of the server, once the peer is known: a block is a stranger's
-abbrev pub from_other : Reception → Addr → TftpPacket → Turn
-from_other old from (Block n body) = record { says = Stranger from; becomes = old }
-from_other old from (Error n text) = ignored old
-from_other old from (Ack n) = ignored old
-from_other old from (Rrq filename mode_text) = ignored old
-from_other old from (Wrq filename mode_text) = ignored old
+-- This answer fits the packet.
+abbrev pub Fits : Reception → Addr → TftpPacket → Step → Type 0
+Fits old from packet Ignored = ⊥
+Fits old from packet (Stranger to) = IsStranger old from packet to
+Fits old from packet (Again to n) = IsAgain old from packet to n
+Fits old from packet (Took to n last) = IsTaken old from packet to n last
+Fits old from packet (Refused code_no) = IsRefused old from packet code_no
+Fits old from packet (Over got) = IsTooMuch old from packet got
 
-abbrev pub from_server : Reception → Addr → TftpPacket → Option ℕ → Turn
-from_server old from packet None = first old from packet
-from_server old from packet (Some source) = if from.port == source then from_peer old from packet else from_other old from packet
-
--- what a receiver does: nothing once it has ended, and nothing with a packet from elsewhere
-unfoldable pub turn : Reception → Addr → TftpPacket → Turn
-turn old from packet =
-    if old.ended then ignored old else
-    (if from.ip == old.server then from_server old from packet old.peer else ignored old)
-
--- memory is wanted for a block alone
-abbrev pub TakesMemory : Step → Type 0
-TakesMemory (Took to n last) = Unit {0}
-TakesMemory (Over got) = Unit {0}
-TakesMemory Ignored = ⊥
-TakesMemory (Stranger to) = ⊥
-TakesMemory (Again to n) = ⊥
-TakesMemory (Refused n) = ⊥
-
--- what a call answers, and what the receiver is then: unchanged where memory ran out, which it does for a block alone
-abbrev pub Does : {E : Type 0} → Turn → Reception → Reception → Result Step E → Type 0
-Does owed old new (Ok answer) = (answer ≡ owed.says) × (new ≡ owed.becomes)
-Does owed old new (Err e) = (new ≡ old) × TakesMemory owed.says
+-- What it answers, and what it is then. All else is ignored: where no other answer fits.
+abbrev pub Receives : Reception → Addr → TftpPacket → Step → Reception → Type 0
+Receives old from packet Ignored new = (new ≡ old) × ((says : Step) → Fits old from packet says → ⊥)
+Receives old from packet (Stranger to) new = (new ≡ old) × IsStranger old from packet to
+Receives old from packet (Again to n) new = (new ≡ old) × IsAgain old from packet to n
+Receives old from packet (Took to n last) new = (t : IsTaken old from packet to n last) × (new ≡ with_block old from.port t.body last)
+Receives old from packet (Refused code_no) new = (new ≡ closed old) × IsRefused old from packet code_no
+Receives old from packet (Over got) new = (t : IsTooMuch old from packet got) × (new ≡ with_block old from.port t.body true)

@@ -1,94 +1,65 @@
--- What a sender does with a packet and at a tick (RFC 1350, sections 2, 4 and 6; RFC 1123, section 4.2.3.1).
-use Rattle.std.specs.Prelude.{ℕ, zero, suc, ◌+◌, ◌-◌, ◌*◌, nat_lt, ◌==◌, ◌&&◌, if◌then◌else◌, List, [], ◌∷◌, length, take, drop, Bool, true, false}
+-- What a sender does with a packet and at a tick (RFC 1350, sections 2, 4, 5 and 6; RFC 1123, section 4.2.3.1).
+use Rattle.std.specs.Prelude.{◌≡◌, ◌≢◌, ℕ, ◌+◌, ◌<◌, ◌≤◌, ◌⊎◌, List, [], ◌∷◌, length, true, false}
 use Rattle.sd_outside.specs.declared.packet.Addr.{Addr}
 use Rattle.sd_tftp.specs.declared.packet.TftpPacket.{TftpPacket}
-use Rattle.sd_tftp.specs.declared.packet.TftpPacket.TheVariants.{Rrq, Wrq, Block, Ack, Error}
+use Rattle.sd_tftp.specs.declared.packet.TftpPacket.TheVariants.{Ack, Error}
 use Rattle.sd_tftp.specs.declared.step.SenderStep.{SenderStep}
 use Rattle.sd_tftp.specs.declared.step.SenderStep.TheVariants.{Ignored, Stranger, Next, Done}
 use Rattle.sd_tftp.specs.declared.step.SenderTick.{SenderTick}
 use Rattle.sd_tftp.specs.declared.step.SenderTick.TheVariants.{Rest, Resend, Ended}
-use Rattle.sd_tftp.specs.Transfer.{Transfer}
+use Rattle.sd_tftp.specs.Blocks.{block_at, IsShort}
+use Rattle.sd_tftp.specs.Transfer.{Transfer, IsDue, moved, resent, over}
 
--- block n of a file: the 512 bytes at its number, or as many as are left
-abbrev pub block_at : List ℕ → ℕ → List ℕ
-block_at file n = take 512 (drop (512 * (n - 1)) file)
+-- It goes on, and this comes from its peer: the address and the port (section 4).
+abbrev pub Hears : Transfer → Addr → Type 0
+Hears old from = (old.ended ≡ false) × (from ≡ old.peer)
 
-abbrev pub is_same : Addr → Addr → Bool
-is_same a b = (a.ip == b.ip) && (a.port == b.port)
+-- Its peer acknowledges the present block.
+abbrev pub IsAcked : Transfer → Addr → TftpPacket → Type 0
+IsAcked old from packet = Hears old from × (packet ≡ Ack old.block)
 
--- so many blocks of a file from block n on
-abbrev pub blocks_from : List ℕ → ℕ → ℕ → List (List ℕ)
-blocks_from file n zero = []
-blocks_from file n (suc k) = block_at file n ∷ blocks_from file (n + 1) k
+-- Section 5: an ERROR from its peer ends the transfer.
+abbrev pub IsBroken : Transfer → Addr → TftpPacket → Type 0
+IsBroken old from packet = Hears old from × ((code_no : ℕ) × (text : List ℕ) × (packet ≡ Error code_no text))
 
-pub record Turn : Type 0 where
-  pub says : SenderStep
-  pub becomes : Transfer
+-- Section 2: the present block was acknowledged and is whole, so the next is sent.
+abbrev pub IsNext : Transfer → Addr → TftpPacket → List ℕ → ℕ → Type 0
+IsNext old from packet file n = IsAcked old from packet × (512 ≤ length (block_at file old.block)) × (n ≡ old.block + 1)
 
-pub record Tick : Type 0 where
-  pub says : SenderTick
-  pub becomes : Transfer
+-- Section 6: the last block was acknowledged.
+abbrev pub IsDone : Transfer → Addr → TftpPacket → List ℕ → Type 0
+IsDone old from packet file = (IsAcked old from packet × IsShort (block_at file old.block)) ⊎ IsBroken old from packet
 
--- block 1 was sent
-abbrev pub begun : Addr → ℕ → Transfer
-begun to now = record { peer = to; block = 1; sent_at = now; sends = 1; ended = false }
+-- Section 4: anything but an ERROR from anyone else, who gets an ERROR 5. No ERROR is answered.
+pub record IsStranger (old : Transfer) (from : Addr) (packet : TftpPacket) (to : Addr) : Type 0 where
+  pub going : old.ended ≡ false
+  pub other : from ≢ old.peer
+  pub no_error : (code_no : ℕ) (text : List ℕ) → packet ≢ Error code_no text
+  pub to_is : to ≡ from
 
-abbrev pub over : Transfer → Transfer
-over old = record { peer = old.peer; block = old.block; sent_at = old.sent_at; sends = old.sends; ended = true }
+-- This answer fits the packet.
+abbrev pub Fits : Transfer → Addr → TftpPacket → List ℕ → SenderStep → Type 0
+Fits old from packet file Ignored = ⊥
+Fits old from packet file (Stranger to) = IsStranger old from packet to
+Fits old from packet file (Next n) = IsNext old from packet file n
+Fits old from packet file Done = IsDone old from packet file
 
-abbrev pub moved : Transfer → ℕ → Transfer
-moved old now = record { peer = old.peer; block = old.block + 1; sent_at = now; sends = 1; ended = old.ended }
+-- What it answers to a packet, and what it is then. All else is ignored: where no other answer fits.
+abbrev pub Sends : Transfer → ℕ → Addr → TftpPacket → List ℕ → SenderStep → Transfer → Type 0
+Sends old now from packet file Ignored new = (new ≡ old) × ((says : SenderStep) → Fits old from packet file says → ⊥)
+Sends old now from packet file (Stranger to) new = (new ≡ old) × IsStranger old from packet to
+Sends old now from packet file (Next n) new = (new ≡ moved old now) × IsNext old from packet file n
+Sends old now from packet file Done new = (new ≡ over old) × IsDone old from packet file
 
-abbrev pub resent : Transfer → ℕ → Transfer
-resent old now = record { peer = old.peer; block = old.block; sent_at = now; sends = old.sends + 1; ended = old.ended }
+-- What it answers at a tick, and what it is then: a block that is due is sent again, and after `tries` sends the transfer ends.
+abbrev pub Ticks : Transfer → ℕ → ℕ → ℕ → SenderTick → Transfer → Type 0
+Ticks old now wait tries Rest new = (new ≡ old) × ((old.ended ≡ true) ⊎ (now < old.sent_at + wait))
+Ticks old now wait tries (Resend n) new = (new ≡ resent old now) × (old.ended ≡ false) × IsDue old.sent_at wait now × (old.sends < tries) × (n ≡ old.block)
+Ticks old now wait tries Ended new = (new ≡ over old) × (old.ended ≡ false) × IsDue old.sent_at wait now × (tries ≤ old.sends)
 
-abbrev pub ignored : Transfer → Turn
-ignored old = record { says = Ignored; becomes = old }
-
--- the present block is acknowledged: one below 512 bytes was the last
-abbrev pub acknowledged : Transfer → ℕ → List ℕ → Turn
-acknowledged old now file =
-    if nat_lt (length (block_at file old.block)) 512 then record { says = Done; becomes = over old } else
-    record { says = Next (old.block + 1); becomes = moved old now }
-
--- from the peer: an ACK of the present block alone moves on, and an ERROR ends
-abbrev pub from_peer : Transfer → ℕ → TftpPacket → List ℕ → Turn
-from_peer old now (Ack n) file = if n == old.block then acknowledged old now file else ignored old
-from_peer old now (Error n text) file = record { says = Done; becomes = over old }
-from_peer old now (Block n body) file = ignored old
-from_peer old now (Rrq filename mode_text) file = ignored old
-from_peer old now (Wrq filename mode_text) file = ignored old
-
--- from anyone else: a stranger is told so, unless it sends an ERROR
-abbrev pub from_other : Addr → TftpPacket → SenderStep
-from_other from (Error n text) = Ignored
-from_other from (Ack n) = Stranger from
-from_other from (Block n body) = Stranger from
-from_other from (Rrq filename mode_text) = Stranger from
-from_other from (Wrq filename mode_text) = Stranger from
-
--- what a sender does with a packet: nothing once it has ended
-unfoldable pub turn : Transfer → ℕ → Addr → TftpPacket → List ℕ → Turn
-turn old now from packet file =
-    if old.ended then ignored old else
-    (if is_same from old.peer then from_peer old now packet file else record { says = from_other from packet; becomes = old })
-
--- A block is due `wait` ticks after its last send. It is sent again, and after `tries` sends the transfer ends.
-unfoldable pub tick : Transfer → ℕ → ℕ → ℕ → Tick
-tick old now wait tries =
-    if old.ended then record { says = Rest; becomes = old } else
-    (if nat_lt now (old.sent_at + wait) then record { says = Rest; becomes = old } else
-    (if nat_lt old.sends tries then record { says = Resend old.block; becomes = resent old now } else
-    record { says = Ended; becomes = over old }))
-
--- this answer sends a block
-abbrev pub SendsBlock : SenderStep → Type 0
-SendsBlock (Next n) = Unit {0}
-SendsBlock Ignored = ⊥
-SendsBlock (Stranger to) = ⊥
-SendsBlock Done = ⊥
-
-abbrev pub SendsAgain : SenderTick → Type 0
-SendsAgain (Resend n) = Unit {0}
-SendsAgain Rest = ⊥
-SendsAgain Ended = ⊥
+-- the block that an answer sends
+abbrev pub sent_by : SenderStep → List ℕ
+sent_by (Next n) = n ∷ []
+sent_by Ignored = []
+sent_by (Stranger to) = []
+sent_by Done = []
