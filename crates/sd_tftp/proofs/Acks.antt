@@ -1,12 +1,12 @@
 -- What a sender does with a packet, said and computed, is the same.
-use Rattle.std.proofs.Common.{◌≡◌, ◌≢◌, ℕ, ◌+◌, ◌<◌, ◌≤◌, ◌⊎◌, inl, inr, Bool, true, false, cond, ◌&&◌, eqb, ltb, ne_eqb, eq-eqb, List, [], length, refl, sym, ◌∙◌, ap, subst, arith}
-use Rattle.std.proofs.lemmas.Bool.{eqb-true, eqb-false, ltb-false, ltb-true, le-ltb, lt-ltb}
+use Rattle.std.proofs.Common.{◌≡◌, ◌≢◌, ℕ, ◌+◌, inl, inr, Bool, true, false, cond, ◌&&◌, eqb, ltb, eq-eqb, List, length, refl, sym, ◌∙◌, ap, subst}
+use Rattle.std.proofs.lemmas.Bool.{eqb-true, ltb-false, ltb-true, le-ltb, lt-ltb}
 use Rattle.sd_outside.specs.declared.packet.Addr.{Addr}
 use Rattle.sd_tftp.specs.declared.packet.TftpPacket.{TftpPacket}
 use Rattle.sd_tftp.specs.declared.packet.TftpPacket.TheVariants.{Rrq, Wrq, Block, Ack, Error}
 use Rattle.sd_tftp.specs.declared.step.SenderStep.{SenderStep}
 use Rattle.sd_tftp.specs.declared.step.SenderStep.TheVariants.{Ignored, Stranger, Next, Done}
-use Rattle.sd_tftp.specs.Blocks.{block_at, IsShort}
+use Rattle.sd_tftp.specs.Blocks.{block_at}
 use Rattle.sd_tftp.specs.Transfer.{Transfer, over, moved}
 use Rattle.sd_tftp.specs.Sending.{Hears, IsAcked, IsNext, IsDone, IsStranger, Fits, Sends}
 use Rattle.sd_tftp.specs.SenderTurn.{Turn, turn, ignored, is_same, acknowledged, from_peer, from_other}

@@ -1,5 +1,5 @@
 -- What a receiver does, said and computed, is the same.
-use Rattle.std.proofs.Common.{◌≡◌, ◌≢◌, ℕ, ◌+◌, ◌*◌, ◌<◌, ◌≤◌, Bool, true, false, cond, not, ◌&&◌, eqb, ltb, ne_eqb, eq-eqb, Option, Some, None, List, length, Result, Ok, Err, refl, sym, ◌∙◌, ap, subst, arith}
+use Rattle.std.proofs.Common.{◌≡◌, ◌≢◌, ℕ, ◌*◌, ◌≤◌, Bool, true, false, cond, not, ◌&&◌, eqb, ltb, ne_eqb, eq-eqb, Option, Some, None, List, length, Result, Ok, Err, refl, sym, ◌∙◌, ap, subst, arith}
 use Rattle.std.proofs.lemmas.Bool.{eqb-true, eqb-false, ltb-false, le-ltb}
 use Rattle.std.specs.Prelude.{IfOk, OnErr}
 use Rattle.sd_outside.specs.declared.packet.Addr.{Addr}

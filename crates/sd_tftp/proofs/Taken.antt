@@ -1,13 +1,12 @@
 -- What a receiver took is in order, whole until it ends, and the file's.
-use Rattle.std.proofs.Common.{◌≡◌, ℕ, ◌+◌, ◌≤◌, ◌<◌, Bool, true, false, ltb, Option, Some, None, List, [], ◌∷◌, ◌++◌, length, refl, sym, ◌∙◌, ap, subst, arith, inl, inr, ◌⊎◌}
+use Rattle.std.proofs.Common.{◌≡◌, ℕ, ◌+◌, Bool, true, false, Option, Some, None, List, [], ◌∷◌, ◌++◌, length, refl, sym, ◌∙◌, subst, arith, inl, inr, ◌⊎◌}
 use Rattle.std.proofs.lemmas.Bool.{ltb-false}
-use Rattle.std.specs.List.{concat}
 use Rattle.sd_outside.specs.declared.packet.Addr.{Addr}
 use Rattle.sd_tftp.specs.declared.packet.TftpPacket.{TftpPacket}
 use Rattle.sd_tftp.specs.declared.packet.TftpPacket.TheVariants.{Block}
 use Rattle.sd_tftp.specs.declared.step.Step.{Step}
 use Rattle.sd_tftp.specs.declared.step.Step.TheVariants.{Ignored, Stranger, Again, Took, Refused, Over}
-use Rattle.sd_tftp.specs.Blocks.{AreBlocksOf, AreWhole, EndsShort}
+use Rattle.sd_tftp.specs.Blocks.{AreBlocksOf, AreWhole}
 use Rattle.sd_tftp.specs.Reception.{Reception, with_block, closed}
 use Rattle.sd_tftp.specs.Receiving.{IsRightPort, awaited, Brings, Receives}
 use Rattle.sd_tftp.specs.Runs.{Arrival, Run, run_begins, run_goes_on, Holds, holds_none, holds_block, holds_other, Carries}

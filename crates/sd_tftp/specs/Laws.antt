@@ -1,5 +1,5 @@
 -- What holds of packets, receivers and senders. The functions of src/laws.rt have these as their contracts.
-use Rattle.std.specs.Prelude.{◌≡◌, ◌≢◌, ℕ, ◌+◌, ◌-◌, ◌<◌, ◌⊎◌, ◌↔◌, ◌≤◌, List, [], ◌++◌, ◌∷◌, length, Ok, Err, true, false}
+use Rattle.std.specs.Prelude.{◌≡◌, ◌≢◌, ℕ, ◌+◌, ◌-◌, ◌⊎◌, ◌↔◌, ◌≤◌, List, [], ◌++◌, ◌∷◌, length, Ok, Err, false}
 use Rattle.std.specs.List.{concat}
 use Rattle.sd_outside.specs.Bytes.{IsBytes}
 use Rattle.sd_outside.specs.declared.packet.Addr.{Addr}

@@ -1,5 +1,5 @@
 -- What a receiver does with a packet (RFC 1350, sections 2, 4, 5 and 6): which answer a packet gets, and what it changes.
-use Rattle.std.specs.Prelude.{◌≡◌, ◌≢◌, ℕ, ◌+◌, ◌*◌, ◌<◌, ◌≤◌, nat_lt, List, length, Option, Some, None, Bool, true, false}
+use Rattle.std.specs.Prelude.{◌≡◌, ◌≢◌, ℕ, ◌+◌, ◌*◌, ◌≤◌, nat_lt, List, length, Option, Some, None, Bool, true, false}
 use Rattle.sd_outside.specs.declared.packet.Addr.{Addr}
 use Rattle.sd_tftp.specs.declared.packet.TftpPacket.{TftpPacket}
 use Rattle.sd_tftp.specs.declared.packet.TftpPacket.TheVariants.{Block, Error}

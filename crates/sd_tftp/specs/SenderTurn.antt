@@ -1,5 +1,5 @@
 -- The same as Sending, computed: what a sender answers to a packet and at a tick, and what it is then.
-use Rattle.std.specs.Prelude.{ℕ, zero, suc, ◌+◌, ◌-◌, ◌*◌, nat_lt, ◌==◌, ◌&&◌, if◌then◌else◌, List, [], ◌∷◌, length, take, drop, Bool, true, false}
+use Rattle.std.specs.Prelude.{ℕ, ◌+◌, nat_lt, ◌==◌, ◌&&◌, if◌then◌else◌, List, length, Bool}
 use Rattle.sd_outside.specs.declared.packet.Addr.{Addr}
 use Rattle.sd_tftp.specs.declared.packet.TftpPacket.{TftpPacket}
 use Rattle.sd_tftp.specs.declared.packet.TftpPacket.TheVariants.{Rrq, Wrq, Block, Ack, Error}
