@@ -1,0 +1,13 @@
+pub mod Told
+pub mod Read
+pub mod Files
+pub mod Follow
+pub mod Cuts
+pub mod Turns
+pub mod SoFar
+pub mod TooLong
+pub mod OneWord
+pub mod Refusals
+pub mod Standing
+pub mod Either
+pub mod Found
