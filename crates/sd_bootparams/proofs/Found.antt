@@ -7,7 +7,7 @@ use Rattle.sd_bootparams.specs.declared.params.Why.TheVariants as why
 use Rattle.sd_bootparams.specs.File.{Text, flat, Role, client, item_of, Part, entry_in, parts, nothing, adding, fault, fault_in, item_fault, same, has, is_text, key_of, value_of, server_of, path_of, is_too_long, has_key}
 use Rattle.sd_bootparams.specs.Tables.{EntriesAreFound}
 
-same_refl : (xs : Text) → same xs xs ≡ true
+pub same_refl : (xs : Text) → same xs xs ≡ true
 same_refl [] = refl
 same_refl (x ∷ xs) = rw (eq-eqb x x refl) (same_refl xs)
 

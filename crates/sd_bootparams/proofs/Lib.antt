@@ -11,3 +11,6 @@ pub mod Refusals
 pub mod Standing
 pub mod Either
 pub mod Found
+pub mod Unbroken
+pub mod Ip
+pub mod Twice

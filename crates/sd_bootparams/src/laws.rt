@@ -1,7 +1,7 @@
 //! What holds of the messages and of bootparams files, each on a function that does nothing: the contract is the law.
 
-ghost use Rattle.sd_bootparams.specs.Laws.{ArgsWrittenAreRead, ReadAreArgs, ResultWrittenIsRead, ReadIsResult};
-ghost use Rattle.sd_bootparams.specs.FileLaws.{OneReading, OneRefusal, NeverBoth, EitherWay, ItemsAreTheirParts, LinesAreTheText};
+ghost use Rattle.sd_bootparams.specs.Laws.{ArgsWrittenAreRead, ReadAreArgs, ResultWrittenIsRead, ReadIsResult, IpSpellings};
+ghost use Rattle.sd_bootparams.specs.FileLaws.{OneReading, OneRefusal, NeverBoth, EitherWay, ItemsAreTheirParts, LinesAreTheText, BackslashIsASpace, ClientsDiffer};
 ghost use Rattle.sd_bootparams.specs.Tables.{EntriesAreFound};
 ghost use Rattle.sd_bootparams.specs.LineByLine.{BeginsBlank, NextLineStands, NextLineRefused, StandingIsFile};
 
@@ -23,6 +23,11 @@ pub fn result_written_is_read()
 /// A result that is read is of that procedure, and within the limits.
 pub fn read_is_result()
     ensures { ReadIsResult }
+{}
+
+/// An address is read from both spellings of each of its chars, and from nothing else.
+pub fn ip_spellings()
+    ensures { IpSpellings }
 {}
 
 /// A bootparams file says one thing.
@@ -80,6 +85,16 @@ pub fn items_are_their_parts()
 #[tactic(auto, using(crate::proofs::Files::lines_are_the_text))]
 pub fn lines_are_the_text()
     ensures { LinesAreTheText }
+{}
+
+/// A backslash before a line feed stands, with it, for a space.
+pub fn backslash_is_a_space()
+    ensures { BackslashIsASpace }
+{}
+
+/// No client has two lines.
+pub fn clients_differ()
+    ensures { ClientsDiffer }
 {}
 
 /// Each entry of a file is the one that is found.

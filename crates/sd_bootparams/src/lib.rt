@@ -18,9 +18,10 @@ mod writing;
 pub use book::{Book, Host, Hosts};
 pub use draft::{Draft, Next, blank_draft, read_line, read_params};
 pub use laws::{
-    args_written_are_read, begins_blank, either_way, entries_are_found, items_are_their_parts,
-    lines_are_the_text, never_both, next_line_refused, next_line_stands, one_reading, one_refusal,
-    read_are_args, read_is_result, result_written_is_read, standing_is_file,
+    args_written_are_read, backslash_is_a_space, begins_blank, clients_differ, either_way,
+    entries_are_found, ip_spellings, items_are_their_parts, lines_are_the_text, never_both,
+    next_line_refused, next_line_stands, one_reading, one_refusal, read_are_args, read_is_result,
+    result_written_is_read, standing_is_file,
 };
 pub use message::{BpArgs, BpResult};
 pub use params::{Entry, Params, ParamsError, Why};

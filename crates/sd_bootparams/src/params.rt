@@ -95,10 +95,7 @@ impl Params {
 #[derive(Clone, Copy, Debug, PartialEq, Eq)]
 pub enum ParamsError {
     /// The first word that is refused begins on this line of the file, counted from 1.
-    Bad {
-        line: u64,
-        why: Why,
-    },
+    Bad { line: u64, why: Why },
     NoMemory,
 }
 
