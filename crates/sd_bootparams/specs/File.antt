@@ -1,4 +1,5 @@
--- The bootparams file: its lines, its words, what it says, and its first refusal. A text is the list of its bytes.
+-- The bootparams file, a profile of bootparams(5): its lines, its words, what it says, and its first refusal. A text is the list of
+-- its bytes.
 use Rattle.std.specs.Prelude.{◌≡◌, ℕ, ◌+◌, ◌-◌, ◌==◌, ◌&&◌, ◌||◌, not, nat_lt, nat_le, Bool, true, false, if◌then◌else◌, List, [], ◌∷◌, ◌++◌, length, take, map, Option, Some, None}
 use Rattle.std.specs.List.{slice_split, onto_first, filter, position_or_len, before_first, after_first, list_all, list_any, ends_with}
 use Rattle.std.specs.Cmp.Lexicographic.{pointwise}

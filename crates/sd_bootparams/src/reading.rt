@@ -1,10 +1,10 @@
 //! Reading the messages.
 
-ghost use Rattle.std.specs.Prelude.{◌≤◌, IfOk, length};
+ghost use Rattle.std.specs.Prelude.{◌≡◌, ◌≤◌, IfOk, length};
 ghost use Rattle.sd_xdr.specs.Kind.{given, opaque, upto, bytes};
 ghost use Rattle.sd_xdr.specs.Grammar.{Answers};
 ghost use Rattle.sd_xdr.specs.Reading.{Takes};
-ghost use Rattle.sd_bootparams.specs.Layout.{ip, ip_value, args_layout, args_kind, args_value, ArgsFit, result_layout, result_kind, result_value, ResultFits};
+ghost use Rattle.sd_bootparams.specs.Layout.{ip, ip_value, args_layout, args_kind, args_value, proc_of, ArgsFit, result_layout, result_kind, result_value, result_proc, ResultFits};
 
 use crate::message::{BpArgs, BpResult};
 use sd_outside::ByteList;
@@ -41,6 +41,7 @@ fn text_of(alloc: Global, reader: &mut XdrReader, max: u32) -> Result<ByteList, 
 fn args_part(alloc: Global, reader: &mut XdrReader, proc_no: u32) -> Result<BpArgs, MsgError>
     requires { proc_no ≤ 2 }
     ensures takes { Takes (given proc_no (args_layout proc_no)) args_value reader.old reader.new result }
+    ensures of_proc { IfOk result (λ a. proc_of a ≡ proc_no) }
     ensures fits { IfOk result ArgsFit }
 {
     match proc_no {
@@ -58,6 +59,7 @@ fn args_part(alloc: Global, reader: &mut XdrReader, proc_no: u32) -> Result<BpAr
 fn args_of(alloc: Global, reader: &mut XdrReader, proc_no: u32) -> Result<BpArgs, MsgError>
     requires { proc_no ≤ 2 }
     ensures takes { Takes (args_kind proc_no) args_value reader.old reader.new result }
+    ensures of_proc { IfOk result (λ a. proc_of a ≡ proc_no) }
     ensures fits { IfOk result ArgsFit }
 {
     let args = args_part(alloc, reader, proc_no)?;
@@ -70,6 +72,7 @@ fn args_of(alloc: Global, reader: &mut XdrReader, proc_no: u32) -> Result<BpArgs
 pub fn read_bp_args(alloc: Global, proc_no: u32, bytes: &[u8]) -> Result<BpArgs, MsgError>
     requires { proc_no ≤ 2 }
     ensures answers { Answers (args_kind proc_no) args_value bytes.now result }
+    ensures of_proc { IfOk result (λ a. proc_of a ≡ proc_no) }
     // What was read can be written.
     ensures fits { IfOk result ArgsFit }
 {
@@ -80,6 +83,7 @@ pub fn read_bp_args(alloc: Global, proc_no: u32, bytes: &[u8]) -> Result<BpArgs,
 fn result_part(alloc: Global, reader: &mut XdrReader, proc_no: u32) -> Result<BpResult, MsgError>
     requires { proc_no ≤ 2 }
     ensures takes { Takes (given proc_no (result_layout proc_no)) result_value reader.old reader.new result }
+    ensures of_proc { IfOk result (λ r. result_proc r ≡ proc_no) }
     ensures fits { IfOk result ResultFits }
 {
     match proc_no {
@@ -107,6 +111,7 @@ fn result_part(alloc: Global, reader: &mut XdrReader, proc_no: u32) -> Result<Bp
 fn result_of(alloc: Global, reader: &mut XdrReader, proc_no: u32) -> Result<BpResult, MsgError>
     requires { proc_no ≤ 2 }
     ensures takes { Takes (result_kind proc_no) result_value reader.old reader.new result }
+    ensures of_proc { IfOk result (λ r. result_proc r ≡ proc_no) }
     ensures fits { IfOk result ResultFits }
 {
     let result = result_part(alloc, reader, proc_no)?;
@@ -119,6 +124,7 @@ fn result_of(alloc: Global, reader: &mut XdrReader, proc_no: u32) -> Result<BpRe
 pub fn read_bp_result(alloc: Global, proc_no: u32, bytes: &[u8]) -> Result<BpResult, MsgError>
     requires { proc_no ≤ 2 }
     ensures answers { Answers (result_kind proc_no) result_value bytes.now result }
+    ensures of_proc { IfOk result (λ r. result_proc r ≡ proc_no) }
     // What was read can be written.
     ensures fits { IfOk result ResultFits }
 {

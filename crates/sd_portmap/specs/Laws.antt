@@ -1,13 +1,13 @@
 -- What holds of the portmapper's messages. The functions of src/laws.rt have these as their contracts.
 use Rattle.std.specs.Prelude.{◌≡◌, ◌↔◌, ℕ, ◌^◌, ◌<◌, ◌≤◌, List, length, All}
-use Rattle.sd_xdr.specs.Kind.{whole, place_of}
+use Rattle.sd_xdr.specs.Kind.{whole}
 use Rattle.sd_xdr.specs.Grammar.{Reads}
 use Rattle.sd_portmap.specs.declared.mapping.Mapping.{Mapping}
 use Rattle.sd_portmap.specs.declared.message.PmapArgs.{PmapArgs}
 use Rattle.sd_portmap.specs.declared.message.PmapArgs.TheVariants as args
 use Rattle.sd_portmap.specs.declared.message.PmapResult.{PmapResult}
 use Rattle.sd_portmap.specs.declared.message.PmapResult.TheVariants as results
-use Rattle.sd_portmap.specs.Layout.{args_kind, args_value, proc_of, args_bytes, result_place, result_kind, result_value, result_bytes}
+use Rattle.sd_portmap.specs.Layout.{args_kind, args_value, proc_of, args_bytes, IsResultOf, result_kind, result_value, result_bytes}
 
 -- the bytes, all of them, spell these arguments of a procedure
 abbrev pub ReadsArgs : ℕ → List ℕ → PmapArgs → Type 0
@@ -16,10 +16,6 @@ ReadsArgs proc_no bs a = Reads whole (args_kind proc_no) bs (args_value a)
 -- the bytes, all of them, spell this result of a procedure
 abbrev pub ReadsResult : ℕ → List ℕ → PmapResult → Type 0
 ReadsResult proc_no bs r = Reads whole (result_kind proc_no) bs (result_value r)
-
--- the procedure has results of this variant
-abbrev pub IsResultOf : ℕ → PmapResult → Type 0
-IsResultOf proc_no r = place_of (result_value r) ≡ result_place proc_no
 
 -- a definition's number may be any, a message's is a word
 abbrev pub IsWord : ℕ → Type 0

@@ -1,5 +1,5 @@
 -- The kinds of the portmapper's messages, with the standard's names, and the value that each message is (RFC 1057, appendix A).
-use Rattle.std.specs.Prelude.{ℕ, ◌^◌, ◌<◌, ◌==◌, if◌then◌else◌, List, length, map}
+use Rattle.std.specs.Prelude.{◌≡◌, ℕ, ◌^◌, ◌<◌, ◌≤◌, ◌==◌, if◌then◌else◌, List, length, map}
 use Rattle.sd_xdr.specs.Kind.{any, flag, between, upto, no_limit, part, whole, Kind, void, word, opaque, list, ◌&◌, variant, place_of, Value, none, number, bytes, ◌⊗◌, truth, chain}
 use Rattle.sd_xdr.specs.Grammar.{writes}
 use Rattle.sd_portmap.specs.declared.mapping.Mapping.{Mapping}
@@ -81,11 +81,17 @@ result_value (results.Port port) = number 2 ⊗ number port
 result_value (results.Mappings ms) = number 3 ⊗ mappings_value ms
 result_value (results.Callit port bs) = number 4 ⊗ number port ⊗ bytes bs
 
--- ---- what is written
+-- ---- which procedure they are of
 
 -- the procedure that has these arguments
 abbrev pub proc_of : PmapArgs → ℕ
 proc_of a = place_of (args_value a)
+
+-- the procedure has results of this variant
+abbrev pub IsResultOf : ℕ → PmapResult → Type 0
+IsResultOf proc_no r = place_of (result_value r) ≡ result_place proc_no
+
+-- ---- what is written
 
 abbrev pub args_bytes : PmapArgs → List ℕ
 args_bytes a = writes (args_kind (proc_of a)) (args_value a)
@@ -109,3 +115,11 @@ ResultFits (results.Flag b) = Unit {0}
 ResultFits (results.Port port) = Unit {0}
 ResultFits (results.Mappings ms) = Unit {0}
 ResultFits (results.Callit port bs) = length bs < 2 ^ 32
+
+-- a port that is answered is one of UDP or TCP
+abbrev pub PortFits : PmapResult → Type 0
+PortFits (results.Port port) = port ≤ 65535
+PortFits results.Void = Unit {0}
+PortFits (results.Flag b) = Unit {0}
+PortFits (results.Mappings ms) = Unit {0}
+PortFits (results.Callit port bs) = Unit {0}

@@ -1,10 +1,10 @@
 //! Reading the portmapper's messages.
 
-ghost use Rattle.std.specs.Prelude.{◌≤◌, IfOk};
+ghost use Rattle.std.specs.Prelude.{◌≡◌, ◌≤◌, IfOk};
 ghost use Rattle.sd_xdr.specs.Kind.{given};
 ghost use Rattle.sd_xdr.specs.Grammar.{Answers};
 ghost use Rattle.sd_xdr.specs.Reading.{Takes};
-ghost use Rattle.sd_portmap.specs.Layout.{args_layout, args_kind, args_value, ArgsFit, result_layout, result_place, result_kind, result_value, ResultFits};
+ghost use Rattle.sd_portmap.specs.Layout.{args_layout, args_kind, args_value, proc_of, ArgsFit, result_layout, result_place, result_kind, result_value, IsResultOf, ResultFits, PortFits};
 
 use crate::mapping::Mapping;
 use crate::message::{PmapArgs, PmapResult};
@@ -16,6 +16,7 @@ use std::alloc::Global;
 fn args_part(alloc: Global, reader: &mut XdrReader, proc_no: u32) -> Result<PmapArgs, MsgError>
     requires { proc_no ≤ 5 }
     ensures takes { Takes (given proc_no (args_layout proc_no)) args_value reader.old reader.new result }
+    ensures of_proc { IfOk result (λ a. proc_of a ≡ proc_no) }
     ensures fits { IfOk result ArgsFit }
 {
     match proc_no {
@@ -43,6 +44,7 @@ fn args_part(alloc: Global, reader: &mut XdrReader, proc_no: u32) -> Result<Pmap
 fn args_of(alloc: Global, reader: &mut XdrReader, proc_no: u32) -> Result<PmapArgs, MsgError>
     requires { proc_no ≤ 5 }
     ensures takes { Takes (args_kind proc_no) args_value reader.old reader.new result }
+    ensures of_proc { IfOk result (λ a. proc_of a ≡ proc_no) }
     ensures fits { IfOk result ArgsFit }
 {
     let args = args_part(alloc, reader, proc_no)?;
@@ -55,6 +57,7 @@ fn args_of(alloc: Global, reader: &mut XdrReader, proc_no: u32) -> Result<PmapAr
 pub fn read_pmap_args(alloc: Global, proc_no: u32, bytes: &[u8]) -> Result<PmapArgs, MsgError>
     requires { proc_no ≤ 5 }
     ensures answers { Answers (args_kind proc_no) args_value bytes.now result }
+    ensures of_proc { IfOk result (λ a. proc_of a ≡ proc_no) }
     // What was read can be written.
     ensures fits { IfOk result ArgsFit }
 {
@@ -65,7 +68,9 @@ pub fn read_pmap_args(alloc: Global, proc_no: u32, bytes: &[u8]) -> Result<PmapA
 fn result_part(alloc: Global, reader: &mut XdrReader, proc_no: u32) -> Result<PmapResult, MsgError>
     requires { proc_no ≤ 5 }
     ensures takes { Takes (given (result_place proc_no) (result_layout (result_place proc_no))) result_value reader.old reader.new result }
+    ensures of_proc { IfOk result (λ r. IsResultOf proc_no r) }
     ensures fits { IfOk result ResultFits }
+    ensures port { IfOk result PortFits }
 {
     match proc_no {
         0 => Ok(PmapResult::Void),
@@ -84,7 +89,9 @@ fn result_part(alloc: Global, reader: &mut XdrReader, proc_no: u32) -> Result<Pm
 fn result_of(alloc: Global, reader: &mut XdrReader, proc_no: u32) -> Result<PmapResult, MsgError>
     requires { proc_no ≤ 5 }
     ensures takes { Takes (result_kind proc_no) result_value reader.old reader.new result }
+    ensures of_proc { IfOk result (λ r. IsResultOf proc_no r) }
     ensures fits { IfOk result ResultFits }
+    ensures port { IfOk result PortFits }
 {
     let result = result_part(alloc, reader, proc_no)?;
     reader.end()?;
@@ -97,8 +104,10 @@ fn result_of(alloc: Global, reader: &mut XdrReader, proc_no: u32) -> Result<Pmap
 pub fn read_pmap_result(alloc: Global, proc_no: u32, bytes: &[u8]) -> Result<PmapResult, MsgError>
     requires { proc_no ≤ 5 }
     ensures answers { Answers (result_kind proc_no) result_value bytes.now result }
+    ensures of_proc { IfOk result (λ r. IsResultOf proc_no r) }
     // What was read can be written.
     ensures fits { IfOk result ResultFits }
+    ensures port { IfOk result PortFits }
 {
     result_of(alloc, &mut XdrReader::new(bytes), proc_no)
 }
