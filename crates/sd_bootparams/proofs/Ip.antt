@@ -1,7 +1,7 @@
 -- The spellings of an address.
 use Rattle.std.proofs.Common.{◌≡◌, ℕ, ◌+◌, ◌-◌, ◌^◌, ◌/◌, ◌%◌, ◌<◌, ◌≤◌, Bool, true, false, ltb, leb, ◌||◌, List, ◌++◌, refl, ap, sym, subst, ◌∙◌, arith, ◌⊎◌, inl, inr}
 use Rattle.sd_xdr.specs.Kind.{Word, between, char, allows, meaning, End, part, Kind, word, ◌&◌, Value, number, ◌⊗◌}
-use Rattle.sd_xdr.specs.Grammar.{word_bytes, joined, Reads, reads_word, reads_row}
+use Rattle.sd_xdr.specs.Grammar.{word_bytes, Reads, reads_word, reads_row}
 use Rattle.sd_bootparams.specs.Layout.{ip, ip_value}
 use Rattle.sd_bootparams.specs.Laws.{IsChar, SpellsIp, IpSpellings}
 

@@ -1,7 +1,7 @@
 -- What is written is read again, as it was and not otherwise, and what is read has a spelling.
-use Rattle.std.proofs.Common.{◌≡◌, ℕ, ◌/◌, ◌%◌, ◌^◌, ◌<◌, ◌≤◌, Bool, true, false, ltb, leb, ◌||◌, refl, sym, subst, arith}
-use Rattle.sd_xdr.specs.Kind.{Word, char, allows, meaning, written, whole, number, number_of, ◌⊗◌, second, Value}
-use Rattle.sd_xdr.specs.Grammar.{HasSpelling, WordSpelled, Reads}
+use Rattle.std.proofs.Common.{◌≡◌, ℕ, ◌/◌, ◌%◌, ◌^◌, ◌<◌, refl, sym, subst, arith}
+use Rattle.sd_xdr.specs.Kind.{char, meaning, written, whole, number, ◌⊗◌, second, Value}
+use Rattle.sd_xdr.specs.Grammar.{HasSpelling, WordSpelled}
 use Rattle.sd_xdr.proofs.Whole.{one_value}
 use Rattle.sd_xdr.proofs.Writes.{written_is_read, read_has_spelling, char_spelled}
 use Rattle.sd_bootparams.specs.declared.message.BpArgs.{BpArgs}

@@ -1,6 +1,5 @@
 -- Messages are told apart by the values that they are.
 use Rattle.std.proofs.Common.{◌≡◌, ℕ, ◌/◌, ◌%◌, ◌^◌, refl, ap, arith}
-use Rattle.sd_xdr.specs.Kind.{number}
 use Rattle.sd_bootparams.specs.declared.message.BpArgs.{BpArgs}
 use Rattle.sd_bootparams.specs.declared.message.BpArgs.TheVariants as args
 use Rattle.sd_bootparams.specs.declared.message.BpResult.{BpResult}

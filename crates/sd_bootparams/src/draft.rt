@@ -1,6 +1,6 @@
 //! A bootparams file that is read line by line.
 
-ghost use Rattle.std.specs.Prelude.{◌≡◌, ◌∷◌, [], map, length, ◌<◌, ◌&&◌, Err, IfOk, IfErr};
+ghost use Rattle.std.specs.Prelude.{◌≡◌, ◌∷◌, [], map, ◌<◌, ◌&&◌, Err, IfOk, IfErr};
 ghost use Rattle.sd_bootparams.specs.File.{IsFile, words_of, on_line, client_fault, item_fault, as_client, as_item, adding, has_client, has_key, is_too_long, same};
 ghost use Rattle.sd_bootparams.specs.LineByLine.{in_place, one_in, after_word, after_words, after_line, line_parts, blank};
 ghost use Rattle.sd_bootparams.specs.declared.params.ParamsError.TheVariants as errors;
@@ -167,7 +167,8 @@ fn read_pieces(
     Ok(())
 }
 
-/// The next line of a file, with its line feed where it has one.
+/// The next line of a file, with its line feed where it has one; `number` is the line that a refusal names. After an error the draft
+/// says nothing more.
 pub fn read_line(
     alloc: Global,
     draft: &mut Draft,
@@ -193,7 +194,8 @@ pub fn blank_draft(alloc: Global) -> Draft
     }
 }
 
-/// What a bootparams file says, or the first word that is refused.
+/// What a bootparams file says. `Bad` has the first word that is refused, from left to right: the line on which it begins, counted
+/// from 1 with joined lines apart, and the first reason in the order of `Why`.
 pub fn read_params(alloc: Global, text: &[u8]) -> Result<Params, ParamsError>
     ensures says { IfOk result (IsFile text.now) }
     ensures refused { IfErr result (IsParamsError text.now) }

@@ -1,6 +1,6 @@
 //! The table of a portmapper (RFC 1057, appendix A).
 
-ghost use Rattle.std.specs.Prelude.{◌≡◌, [], ◌++◌, ◌∷◌, IfOk, OnErr};
+ghost use Rattle.std.specs.Prelude.{◌≡◌, [], IfOk, OnErr};
 ghost use Rattle.std.specs.List.{find, list_any};
 ghost use Rattle.std.specs.Option.{option_map};
 ghost use Rattle.sd_portmap.specs.Table.{is_triple, is_version, port_of, has, Sets, without, Differ};
