@@ -1,0 +1,16 @@
+pub mod Told
+pub mod Read
+pub mod Files
+pub mod Follow
+pub mod Cuts
+pub mod Turns
+pub mod SoFar
+pub mod TooLong
+pub mod OneWord
+pub mod Refusals
+pub mod Standing
+pub mod Either
+pub mod Found
+pub mod Unbroken
+pub mod Ip
+pub mod Twice

@@ -1,0 +1,9 @@
+pub mod Layout
+pub mod Laws
+pub mod Contents
+pub mod BookView
+pub mod File
+pub mod FileLaws
+pub mod LineByLine
+pub mod Judging
+pub mod Tables

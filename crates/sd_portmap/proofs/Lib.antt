@@ -1,0 +1,4 @@
+pub mod Kept
+pub mod Mapped
+pub mod Told
+pub mod Read
