@@ -1,1 +1,5 @@
+mod ChangeLaws
+pub mod MakesLaws
+mod MomentLaws
 pub mod PlanLaws
+pub mod RangeLaws

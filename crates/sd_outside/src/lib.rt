@@ -7,23 +7,31 @@
 
 mod bytes;
 mod calm;
+mod calm_disk;
 mod copying;
+mod disk;
 mod errors;
 mod fhandle;
+mod kept;
 mod list;
+mod mem_disk;
 mod mem_sink;
 mod mem_source;
 mod packet;
 mod planned;
+mod range;
 mod streams;
 #[cfg(test)]
 mod tests;
 
 pub use bytes::ByteList;
 pub use calm::{CalmSink, CalmSource};
+pub use calm_disk::CalmDisk;
+pub use disk::{Disk, StopDisk};
 pub use errors::{Failed, NoMemory};
 pub use fhandle::FHandle;
 pub use list::ListOf;
+pub use mem_disk::MemDisk;
 pub use mem_sink::MemSink;
 pub use mem_source::MemSource;
 pub use packet::{Addr, Mac, Packet};
