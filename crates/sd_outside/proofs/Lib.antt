@@ -1,5 +1,7 @@
 mod ChangeLaws
+mod HistoryLaws
+mod RefreshLaws
+mod SurfaceLaws
 pub mod MakesLaws
-mod MomentLaws
 pub mod PlanLaws
 pub mod RangeLaws

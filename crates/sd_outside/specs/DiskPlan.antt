@@ -46,9 +46,11 @@ pub record Makes (most_changes most_reads : ℕ) (failed : Type 0) (old new : Pl
   pub uses : Uses changes reads old new
   pub planned : failed → TakesNumber old new ⊎ Refuses changes old
 
--- One change or read of a disk. A change may also fail where more bytes than a disk keeps are written.
+-- One change or read of a disk. It fails where a number was taken out of a list. It fails only there, unless the stop
+-- refused it, or there was no room, or more bytes were written than a disk keeps.
 pub record Answers (changes reads bytes : ℕ) (failed : Type 0) (old new : Plan) : Type 0 where
   pub uses : Uses changes reads old new
+  pub taken : TakesNumber old new → failed
   pub planned : failed → TakesNumber old new ⊎ Refuses changes old ⊎ (8256 < bytes)
 
 -- a moment was named: there is room for at least 64 changes

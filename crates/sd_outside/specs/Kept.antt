@@ -1,45 +1,56 @@
--- The moments of a disk in memory, from the changes that it keeps.
-use Rattle.std.specs.Prelude.{◌≡◌, ℕ, ◌+◌, ◌%◌, ◌≤◌, List, [], ◌∷◌, length, replicate, take, slice_index, slice_index_or, Bool, true, false, if◌then◌else◌, ◌==◌}
-use Rattle.sd_outside.specs.Ranges.{put}
-use Rattle.sd_outside.specs.declared.kept.Kept.{Kept}
+-- What the parts of a disk in memory keep.
+use Rattle.std.specs.Prelude.{◌≡◌, ◌⊎◌, ℕ, ◌+◌, ◌<◌, ◌≤◌, List, length, get_or, Bool, false}
+use Rattle.sd_outside.specs.Moments.{State, Change}
+use Rattle.sd_outside.specs.Moments.Change.{Write, Sync}
+use Rattle.sd_outside.specs.declared.range.Span.{Span}
 
--- the bytes of a disk, and which of them were written since the last sync
-pub record State : Type 0 where
-  pub bytes : List ℕ
-  pub unsynced : List Bool
+-- the bytes of a disk with those that are unsynced, and the bytes at the last sync
+pub record SurfaceView : Type 0 where
+  pub state : State
+  pub synced : List ℕ
 
--- the state after a change
-abbrev pub after : Kept → State → State
-after kept state = if kept.is_sync
-    then record { bytes = state.bytes; unsynced = replicate (length state.unsynced) false }
-    else record { bytes = put kept.at kept.bytes.items state.bytes; unsynced = put kept.at (replicate (length kept.bytes.items) true) state.unsynced }
+-- what a disk held at the named moment, and the changes since
+pub record HistoryView : Type 0 where
+  pub named : State
+  pub changes : List Change
 
--- the state after some changes, the first of them first
-abbrev pub replay : List Kept → State → State
-replay [] state = state
-replay (kept ∷ rest) state = replay rest (after kept state)
+abbrev pub Outside : Span → ℕ → Type 0
+Outside span place = (place < span.start) ⊎ (span.end ≤ place)
 
--- What a crash may leave: each byte that was written since the last sync may be any, and the others stay.
-pub record MayLeave (state : State) (image : List ℕ) : Type 0 where
-  pub size : length image ≡ length state.bytes
-  pub stays : (place : ℕ) → slice_index_or state.unsynced place false ≡ false → slice_index image place ≡ slice_index state.bytes place
+-- the change doesn't write that place
+abbrev pub Spares : ℕ → Change → Type 0
+Spares place (Write at bytes) = (place < at) ⊎ (at + length bytes ≤ place)
+Spares place Sync = Unit {0}
 
--- what it may have left at some moment, counted in the changes since the named one
-abbrev pub MightHaveLeft : State → List Kept → ℕ → ℕ → List ℕ → Type 0
-MightHaveLeft named slots kept since image = (moment : ℕ) × (since ≤ moment) × (moment ≤ kept) × MayLeave (replay (take moment slots) named) image
+abbrev pub SparedBy : ℕ → List Change → ℕ → Type 0
+SparedBy n changes place = (k : ℕ) → k < n → Spares place (get_or changes k Sync)
 
--- what an outcome of a crash makes of an unsynced byte: old, new, new at even places and old at odd ones, or A5
-abbrev pub pick : ℕ → ℕ → ℕ → ℕ → ℕ
-pick outcome place old new =
-    if outcome == 0 then old
-    else if outcome == 1 then new
-    else if outcome == 2 then (if place % 2 == 0 then new else old)
-    else 0xa5
+-- where the change ends
+abbrev pub end_of : Change → ℕ
+end_of (Write at bytes) = at + length bytes
+end_of Sync = 0
 
--- what it makes of the bytes from a place on
-abbrev pub picked : ℕ → ℕ → List ℕ → List ℕ → List Bool → List ℕ
-picked outcome place (old ∷ olds) (new ∷ news) (true ∷ marks) = pick outcome place old new ∷ picked outcome (place + 1) olds news marks
-picked outcome place (old ∷ olds) (new ∷ news) (false ∷ marks) = new ∷ picked outcome (place + 1) olds news marks
-picked outcome place [] news marks = []
-picked outcome place (old ∷ olds) [] marks = []
-picked outcome place (old ∷ olds) (new ∷ news) [] = []
+-- the changes lie in a disk of that length
+abbrev pub AllFit : ℕ → List Change → Type 0
+AllFit size changes = (k : ℕ) → k < length changes → end_of (get_or changes k Sync) ≤ size
+
+-- A list was made equal to another, but for some places that were left alone.
+pub record Refreshed {A : Type 0} (left : ℕ → Type 0) (from old new : List A) : Type 0 where
+  pub size : length new ≡ length old
+  pub each : (place : ℕ) (d : A) → (get_or new place d ≡ get_or from place d) ⊎ (left place × (get_or new place d ≡ get_or old place d))
+
+-- All that is unsynced lies in the span. The other bytes are those of the last sync.
+pub record IsSurface (bytes synced : List ℕ) (unsynced : List Bool) (dirty : Span) : Type 0 where
+  pub synced_size : length synced ≡ length bytes
+  pub unsynced_size : length unsynced ≡ length bytes
+  pub ordered : dirty.start ≤ dirty.end
+  pub inside : dirty.end ≤ length bytes
+  pub covered : (place : ℕ) → Outside dirty place → get_or unsynced place false ≡ false
+  pub clean : (place : ℕ) → get_or unsynced place false ≡ false → get_or synced place 0 ≡ get_or bytes place 0
+
+-- Two states differ at no place that the changes spare and that lies outside of the span.
+pub record Near (changes : List Change) (span : Span) (one other : State) : Type 0 where
+  pub size : length one.bytes ≡ length other.bytes
+  pub unsynced_size : length one.unsynced ≡ length other.unsynced
+  pub bytes : (place : ℕ) → SparedBy (length changes) changes place → Outside span place → get_or one.bytes place 0 ≡ get_or other.bytes place 0
+  pub unsynced : (place : ℕ) → SparedBy (length changes) changes place → Outside span place → get_or one.unsynced place false ≡ get_or other.unsynced place false

@@ -1,5 +1,5 @@
 //! A disk in memory that never fails.
-ghost use Rattle.std.specs.Prelude.{◌≡◌, Some, IfOk};
+ghost use Rattle.std.specs.Prelude.{◌≡◌, length, Some, IfOk};
 
 use crate::range::{copy_out, overwrite};
 use crate::{Disk, Failed, NoMemory, StopDisk};
@@ -14,7 +14,8 @@ pub struct CalmDisk {
 impl CalmDisk {
     /// A disk of these bytes.
     pub fn new(alloc: Global, image: &[u8]) -> Result<CalmDisk, NoMemory>
-        ensures { IfOk result (λ disk. ⟦<CalmDisk as Disk>⟧.seen disk ≡ Some image.now) }
+        ensures size { IfOk result (λ disk. ⟦<CalmDisk as Disk>⟧.size disk ≡ length image.now) }
+        ensures seen { IfOk result (λ disk. ⟦<CalmDisk as Disk>⟧.seen disk ≡ Some image.now) }
     {
         Ok(CalmDisk {
             bytes: Vec::from_slice(alloc, image)?,
