@@ -1,3 +1,4 @@
+//! The write that a journal holds.
 ghost use Rattle.std.specs.Prelude.{◌≡◌, ◌+◌, ◌<◌, ◌≤◌, ◌++◌, length, take, replicate, slice_index, ℕ, IfOk, IfErr};
 ghost use Rattle.sd_stable_disk.specs.declared.errors.OpenError.TheVariants.{Damaged as Damage};
 ghost use Rattle.std.specs.Int.{w32, w64, to_be_bytes};

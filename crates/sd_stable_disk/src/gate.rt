@@ -1,3 +1,4 @@
+//! The two halves of a write: into the journal, and home. The gate stands between them.
 ghost use Rattle.std.specs.Prelude.{◌≡◌, ◌+◌, ◌≤◌, length, OnOk, IsErr};
 ghost use Rattle.std.specs.Option.{option_map};
 ghost use Rattle.sd_outside.specs.Causes.{HasCause};
@@ -21,6 +22,7 @@ pub(crate) fn journal<D: Disk>(disk: &mut D, entry: &[u8]) -> Result<(), Failed>
     ensures done { OnOk result (D.seen disk.new ≡ option_map (gated 1024 entry.now 1) (D.seen disk.old)) }
     ensures durable { OnOk result (Only (D.seen disk.new) (D.may_leave disk.new)) }
     ensures size { D.size disk.new ≡ D.size disk.old }
+    ensures tells { D.tells_crash disk.new ≡ D.tells_crash disk.old }
     ensures seen { Both (MidWrite 1024 entry.now) (D.seen disk.old) (D.seen disk.new) }
     ensures crash { (image : _) → D.may_leave disk.new image → Midway 1024 entry.now (D.seen disk.old) image }
     ensures moments { LeavesOnly D.moment D.left_since disk.old disk.new (Midway 1024 entry.now (D.seen disk.old)) }
@@ -42,6 +44,7 @@ pub(crate) fn home<D: Disk>(disk: &mut D, at: u64, bytes: &[u8]) -> Result<(), F
     ensures done { OnOk result (D.seen disk.new ≡ option_map (gated at bytes.now 0) (D.seen disk.old)) }
     ensures durable { OnOk result (Only (D.seen disk.new) (D.may_leave disk.new)) }
     ensures size { D.size disk.new ≡ D.size disk.old }
+    ensures tells { D.tells_crash disk.new ≡ D.tells_crash disk.old }
     ensures seen { Both (MidWrite at bytes.now) (D.seen disk.old) (D.seen disk.new) }
     ensures crash { (image : _) → D.may_leave disk.new image → Midway at bytes.now (D.seen disk.old) image }
     ensures moments { LeavesOnly D.moment D.left_since disk.old disk.new (Midway at bytes.now (D.seen disk.old)) }

@@ -1,3 +1,4 @@
+//! The head of an image: how many files, and how large.
 ghost use Rattle.std.specs.Prelude.{◌≡◌, ◌⊎◌, ◌+◌, ◌<◌, ◌≤◌, ◌++◌, [], ◌∷◌, OnOk, length, ◌≢◌, MatchResult, IfOk, IfErr, Ok, Err};
 ghost use Rattle.sd_outside.specs.Ranges.{part};
 ghost use Rattle.sd_stable_disk.specs.Image.{sizes_told, rounded, total, home_of, AreSizes, first_wrong, format_name};
@@ -11,12 +12,16 @@ use std::alloc::Global;
 /// Where the homes of the files begin.
 pub(crate) const HOMES: u64 = 16384;
 
+/// The name of the format, at the front of an image.
 pub(crate) const FORMAT_NAME: [u8; 8] = [0x53, 0x44, 0x53, 0x54, 0x4f, 0x52, 0x45, 0x0a];
 
+/// The most files.
 const MOST_FILES: u32 = 16;
 
+/// The most bytes of a file.
 const LARGEST_FILE: u64 = 33_554_432;
 
+/// The room that all files may take.
 const ALL_ROOM: u64 = 50_331_648;
 
 /// The room that a file takes.

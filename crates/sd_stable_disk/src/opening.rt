@@ -1,3 +1,4 @@
+//! What an opening reads.
 ghost use Rattle.std.specs.Prelude.{◌≡◌, ◌⊎◌, ◌+◌, length, OnOk, IfOk, IfErr, IfSome, IsOk, Err};
 ghost use Rattle.std.specs.Option.{option_map};
 ghost use Rattle.sd_outside.specs.Disk.{Only, LeavesOnly};
@@ -30,6 +31,7 @@ pub(crate) fn load<D: Disk>(
     // Refused or not, the image opens as before.
     ensures same { option_map opens (D.seen disk.new) ≡ option_map opens (D.seen disk.old) }
     ensures size { D.size disk.new ≡ D.size disk.old }
+    ensures tells { D.tells_crash disk.new ≡ D.tells_crash disk.old }
     ensures room { length buffer.new.items ≡ length buffer.old.items }
     ensures crash { (image : _) → D.may_leave disk.new image → D.may_leave disk.old image ⊎ OpensAs (D.seen disk.old) image }
     ensures moments { LeavesOnly D.moment D.left_since disk.old disk.new (λ image. D.may_leave disk.old image ⊎ OpensAs (D.seen disk.old) image) }

@@ -1,3 +1,4 @@
+//! What an open gate asks for.
 ghost use Rattle.std.specs.Prelude.{◌≡◌, ◌≢◌, ◌+◌, ◌≤◌, length, OnOk, IfErr, IfSome, IsOk, Err};
 ghost use Rattle.std.specs.Option.{option_map};
 ghost use Rattle.sd_outside.specs.Disk.{Only, LeavesOnly};
@@ -35,6 +36,7 @@ pub(crate) fn settle_journal<D: Disk>(
     ensures same { option_map opens (D.seen disk.new) ≡ option_map opens (D.seen disk.old) }
     ensures told { TellsSizes (D.seen disk.new) sizes.now }
     ensures size { D.size disk.new ≡ D.size disk.old }
+    ensures tells { D.tells_crash disk.new ≡ D.tells_crash disk.old }
     ensures room { length buffer.new.items ≡ length buffer.old.items }
     ensures crash { (image : _) → D.may_leave disk.new image → OpensAs (D.seen disk.old) image }
     ensures moments { LeavesOnly D.moment D.left_since disk.old disk.new (OpensAs (D.seen disk.old)) }

@@ -1,3 +1,4 @@
+//! Files on a disk, as callers see them.
 ghost use Rattle.std.specs.Prelude.{◌≡◌, ◌≢◌, ◌⊎◌, ◌↔◌, ◌+◌, ◌<◌, ◌≤◌, ℕ, [], length, map, true, false, slice_index, slice_index_or, is_ok, OnOk, IfOk, IfErr, IfSome, IsOk, IsErr, IsTrue, IsSome, Some, Err};
 ghost use Rattle.std.specs.Option.{option_map, option_and_then};
 ghost use Rattle.sd_outside.specs.Ranges.{part};
@@ -18,7 +19,8 @@ use sd_outside::{Disk, NoMemory, StopDisk};
 use std::alloc::Global;
 use std::marker::Model;
 
-/// Files on a disk. It is up, or down since a write or a recovery failed.
+/// Files on a disk. It is up, or down since a write or a recovery failed. A contract sees its disk, the sizes of its files, and
+/// whether it is up; the files are what its disk holds as it reads.
 #[derive(Drop)]
 pub struct Store<D: Disk> {
     disk: D,
@@ -45,8 +47,8 @@ fn take_buffer(alloc: Global) -> Result<Vec<u8>, NoMemory>
 }
 
 impl<D: Disk> Store<D> {
-    /// Opens a disk with the files that it holds as it reads, or gives it back. A crash meanwhile leaves these files,
-    /// or what a crash could leave before.
+    /// Opens a disk with the files that it holds as it reads, or gives it back with the reason why it is refused. A crash
+    /// meanwhile leaves these files, or what a crash could leave before. The one buffer is taken here.
     pub fn open(alloc: Global, mut disk: D) -> Result<Store<D>, (OpenError, D)>
         ensures up { IfOk result (λ store. store.up ≡ true) }
         ensures files { IfOk result (λ store. files D.seen store ≡ option_and_then held (D.seen disk)) }
@@ -54,6 +56,7 @@ impl<D: Disk> Store<D> {
         ensures readable { IfOk result (λ store. IfSome (D.seen disk) (λ image. IsOk (opens image))) }
         ensures durable { IfOk result (λ store. OnlyHolds (files D.seen store) (may_hold D.may_leave store)) }
         ensures moments { IfOk result (λ store. LeavesOnly D.moment D.left_since disk store.disk (λ image. D.may_leave disk image ⊎ OpensAs (D.seen disk) image)) }
+        ensures tells { IfOk result (λ store. D.tells_crash store.disk ≡ D.tells_crash disk) }
         ensures plan { IfOk result (λ store. Both (Makes 5 4 ⊥) (D.plan disk) (D.plan store.disk)) }
         ensures faults { IfOk result (λ store. D.faults store.disk ≡ D.faults disk) }
 
@@ -61,6 +64,7 @@ impl<D: Disk> Store<D> {
         ensures same { IfErr result (λ refusal. option_map opens (D.seen refusal.1) ≡ option_map opens (D.seen disk)) }
         ensures refused_crash { IfErr result (λ refusal. (image : _) → D.may_leave refusal.1 image → D.may_leave disk image ⊎ OpensAs (D.seen disk) image) }
         ensures refused_moments { IfErr result (λ refusal. LeavesOnly D.moment D.left_since disk refusal.1 (λ image. D.may_leave disk image ⊎ OpensAs (D.seen disk) image)) }
+        ensures refused_tells { IfErr result (λ refusal. D.tells_crash refusal.1 ≡ D.tells_crash disk) }
         ensures refused_plan { IfErr result (λ refusal. Both (Makes 5 4 (refusal.0 ≡ OpenFault)) (D.plan disk) (D.plan refusal.1)) }
         ensures cause { IfErr result (λ refusal. HasFault (D.faults disk) (D.faults refusal.1) (refusal.0 ≡ OpenFault)) }
     {
@@ -78,18 +82,21 @@ impl<D: Disk> Store<D> {
         }
     }
 
+    /// The sizes of the files.
     pub fn sizes(&self) -> &[u64]
         ensures { result.now ≡ self.now.sizes }
     {
         &self.sizes
     }
 
+    /// It is up.
     pub fn is_up(&self) -> bool
         ensures { result ≡ self.now.up }
     {
         self.up
     }
 
+    /// The disk.
     pub fn close(self) -> D
         ensures { result ≡ self.disk }
     {
@@ -116,6 +123,7 @@ impl<D: Disk> Store<D> {
         ensures durable { OnlyHolds (files D.seen self.old) (may_hold D.may_leave self.new) }
         ensures moments { LeavesOnly (λ store. D.moment store.disk) (held_since D.left_since) self.old self.new (λ left. left ≡ files D.seen self.old) }
         ensures none { length into.old ≡ 0 → (self.new ≡ self.old) × IsOk result }
+        ensures tells { D.tells_crash self.new.disk ≡ D.tells_crash self.old.disk }
         ensures plan { Both (Makes 0 1 (IsErr result)) (D.plan self.old.disk) (D.plan self.new.disk) }
         ensures cause { HasCause (D.faults self.old.disk) (D.faults self.new.disk) result }
     {
@@ -145,6 +153,7 @@ impl<D: Disk> Store<D> {
         ensures crash { (left : _) → may_hold D.may_leave self.new left → IsEither file at bytes.now (files D.seen self.old) left }
         ensures moments { LeavesOnly (λ store. D.moment store.disk) (held_since D.left_since) self.old self.new (IsEither file at bytes.now (files D.seen self.old)) }
         ensures none { length bytes.now ≡ 0 → (self.new ≡ self.old) × IsOk result }
+        ensures tells { D.tells_crash self.new.disk ≡ D.tells_crash self.old.disk }
         ensures plan { Both (Makes 8 0 (IsErr result)) (D.plan self.old.disk) (D.plan self.new.disk) }
         ensures cause { HasCause (D.faults self.old.disk) (D.faults self.new.disk) result }
     {
@@ -172,6 +181,7 @@ impl<D: Disk> Store<D> {
         // Only a disk fault refuses a disk that tells what a read gives.
         ensures refused { IsSome (files D.seen self.old) → IfErr result (λ error. error ≡ OpenFault) }
         ensures memory { result ≢ Err NoRoom }
+        ensures tells { D.tells_crash self.new.disk ≡ D.tells_crash self.old.disk }
         ensures plan { Both (Makes 5 3 (result ≡ Err OpenFault)) (D.plan self.old.disk) (D.plan self.new.disk) }
         ensures cause { HasFault (D.faults self.old.disk) (D.faults self.new.disk) (result ≡ Err OpenFault) }
     {
@@ -191,6 +201,7 @@ impl<D: StopDisk> Store<D> {
         ensures up { self.new.up ≡ self.old.up }
         ensures sizes { self.new.sizes ≡ self.old.sizes }
         ensures crash { (left : _) → may_hold D.Disk.may_leave self.new left ↔ may_hold D.Disk.may_leave self.old left }
+        ensures tells { D.Disk.tells_crash self.new.disk ≡ D.Disk.tells_crash self.old.disk }
         ensures plan { Both Begins (D.Disk.plan self.old.disk) (D.Disk.plan self.new.disk) }
         ensures faults { D.Disk.faults self.new.disk ≡ D.Disk.faults self.old.disk }
     {
@@ -205,6 +216,7 @@ impl<D: StopDisk> Store<D> {
         ensures up { self.new.up ≡ self.old.up }
         ensures sizes { self.new.sizes ≡ self.old.sizes }
         ensures crash { (left : _) → may_hold D.Disk.may_leave self.new left ↔ may_hold D.Disk.may_leave self.old left }
+        ensures tells { D.Disk.tells_crash self.new.disk ≡ D.Disk.tells_crash self.old.disk }
         ensures plan { Both (Stops (D.Disk.tells_crash self.old.disk) changes) (D.Disk.plan self.old.disk) (D.Disk.plan self.new.disk) }
         ensures faults { D.Disk.faults self.new.disk ≡ D.Disk.faults self.old.disk }
     {

@@ -83,6 +83,7 @@ fn holds<D: Disk>(rt: &impl Abort, store: &mut Store<D>, second: &[[u8; 8192]; 2
 }
 
 /// A write is stopped after some changes and the disk crashes; then an opening is, and the disk crashes again.
+#[derive(Clone, Copy)]
 struct Crashes {
     stop: u32,
     outcome: u8,
@@ -159,11 +160,23 @@ fn all_stops(rt: &impl Abort, alloc: Global, len: usize) -> Result<(), Fail> {
 }
 
 #[test]
-fn stops_leave_the_whole_write_or_none(rt: HostRuntime) -> Result<(), Fail> {
-    for len in [1, 511, 4096, 8192] {
-        all_stops(&rt, rt.alloc(), len)?;
-    }
-    Ok(())
+fn stops_leave_one_byte_or_none(rt: HostRuntime) -> Result<(), Fail> {
+    all_stops(&rt, rt.alloc(), 1)
+}
+
+#[test]
+fn stops_leave_part_of_a_block_or_none(rt: HostRuntime) -> Result<(), Fail> {
+    all_stops(&rt, rt.alloc(), 511)
+}
+
+#[test]
+fn stops_leave_half_a_block_or_none(rt: HostRuntime) -> Result<(), Fail> {
+    all_stops(&rt, rt.alloc(), 4096)
+}
+
+#[test]
+fn stops_leave_two_half_blocks_or_none(rt: HostRuntime) -> Result<(), Fail> {
+    all_stops(&rt, rt.alloc(), 8192)
 }
 
 #[test]
