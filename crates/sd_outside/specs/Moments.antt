@@ -1,5 +1,5 @@
 -- The moments of a disk in memory: what it held at each, from the changes that it keeps, and what a crash could leave there.
-use Rattle.std.specs.Prelude.{◌≡◌, ◌⊎◌, ℕ, ◌+◌, ◌%◌, ◌<◌, ◌≤◌, List, [], ◌∷◌, length, replicate, take, get_or, Bool, true, false, if◌then◌else◌, ◌==◌}
+use Rattle.std.specs.Prelude.{◌≡◌, ℕ, ◌+◌, ◌%◌, ◌≤◌, List, [], ◌∷◌, length, replicate, take, get_or, Bool, true, false, if◌then◌else◌, ◌==◌}
 use Rattle.sd_outside.specs.Ranges.{put}
 
 -- the bytes, and which of them were written since the last sync

@@ -1,4 +1,4 @@
-use Rattle.std.proofs.Common.{◌≡◌, ◌+◌, ◌-◌, ◌≤◌, length, take, drop, refl, sym, ◌∙◌, ap, subst, arith}
+use Rattle.std.proofs.Common.{◌≡◌, ◌-◌, length, refl, sym, ◌∙◌, ap, subst, arith}
 use Rattle.sd_outside.specs.Ranges.{part, put}
 use Rattle.sd_outside.specs.Kept.{Outside, Refreshed}
 use Rattle.sd_outside.proofs.RangeLaws.{put_mid-put, length-part, length-put, whole_vector}

@@ -1,4 +1,4 @@
-use Rattle.std.proofs.Common.{◌≡◌, ◌+◌, ◌-◌, length, ◌∙◌, ap, arith, replicate, false, rules}
+use Rattle.std.proofs.Common.{◌≡◌, ◌-◌, length, ◌∙◌, ap, arith, replicate, false, rules}
 use Rattle.std.proofs.lemmas.List.{length-replicate}
 use Rattle.sd_outside.specs.Ranges.{put}
 use Rattle.sd_outside.proofs.RangeLaws.{put_mid-put, length-put, whole_vector}

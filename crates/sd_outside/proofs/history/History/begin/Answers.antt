@@ -1,5 +1,4 @@
-use Rattle.std.proofs.Common.{◌≡◌, ◌∙◌, ap, ℕ, List, length, get_or, take, Bool, false}
-use Rattle.sd_outside.specs.Moments.{State, Change}
+use Rattle.std.proofs.Common.{◌∙◌, ap, ℕ, List, length, get_or, take, Bool, false}
 use Rattle.sd_outside.proofs.HistoryLaws.{caught_up}
 use Rattle.sd_outside.proofs.history.History.begin.Goals as goal
 

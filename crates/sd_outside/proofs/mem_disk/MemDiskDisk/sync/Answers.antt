@@ -1,12 +1,10 @@
 use Rattle.std.proofs.Common.{◌≡◌, ◌⊎◌, ◌+◌, ◌<◌, ◌≤◌, ℕ, List, [], ◌∷◌, length, get_or, false, Some, refl, sym, ◌∙◌, ap, subst, arith, length-append}
-use Rattle.sd_outside.specs.Ranges.{Torn}
 use Rattle.sd_outside.specs.Disk.{Elapses}
 use Rattle.sd_outside.specs.Moments.{State, Change, MayLeave, MightHaveLeft, after, replay}
-use Rattle.sd_outside.specs.Moments.Change.{Write, Sync}
-use Rattle.sd_outside.specs.Kept.{Outside, AllFit, HistoryView}
-use Rattle.sd_outside.proofs.RangeLaws.{put_torn}
+use Rattle.sd_outside.specs.Moments.Change.{Sync}
+use Rattle.sd_outside.specs.Kept.{AllFit}
 use Rattle.sd_outside.proofs.ChangeLaws.{answers_change}
-use Rattle.sd_outside.proofs.HistoryLaws.{after_size, fit_more, bytes_more, unsynced_more, elapses, torn_by_write, only_seen}
+use Rattle.sd_outside.proofs.HistoryLaws.{after_size, fit_more, bytes_more, unsynced_more, elapses, only_seen}
 use Rattle.sd_outside.proofs.mem_disk.MemDiskDisk.sync.Goals as goal
 
 pub returns-then-refuses-clause-plan : goal.returns-then-refuses-clause-plan

@@ -2,11 +2,11 @@ use Rattle.std.proofs.Common.{◌≡◌, ◌⊎◌, ◌+◌, ◌<◌, ◌≤◌,
 use Rattle.sd_outside.specs.Ranges.{Torn}
 use Rattle.sd_outside.specs.Disk.{Elapses}
 use Rattle.sd_outside.specs.Moments.{State, Change, MayLeave, MightHaveLeft, after, replay}
-use Rattle.sd_outside.specs.Moments.Change.{Write, Sync}
-use Rattle.sd_outside.specs.Kept.{Outside, AllFit, HistoryView}
+use Rattle.sd_outside.specs.Moments.Change.{Write}
+use Rattle.sd_outside.specs.Kept.{AllFit}
 use Rattle.sd_outside.proofs.RangeLaws.{put_torn}
 use Rattle.sd_outside.proofs.ChangeLaws.{answers_change}
-use Rattle.sd_outside.proofs.HistoryLaws.{after_size, fit_more, bytes_more, unsynced_more, elapses, torn_by_write, only_seen}
+use Rattle.sd_outside.proofs.HistoryLaws.{after_size, fit_more, bytes_more, unsynced_more, elapses, torn_by_write}
 use Rattle.sd_outside.proofs.mem_disk.MemDiskDisk.write.Goals as goal
 
 pub returns-then-refuses-clause-plan : goal.returns-then-refuses-clause-plan

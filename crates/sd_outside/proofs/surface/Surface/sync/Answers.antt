@@ -1,5 +1,4 @@
-use Rattle.std.proofs.Common.{◌≡◌, length, List, ℕ, false, replicate, refl, sym, ◌∙◌, ap, subst}
-use Rattle.sd_outside.specs.Moments.{State}
+use Rattle.std.proofs.Common.{length, List, ℕ, false, replicate, refl, ◌∙◌, ap, subst}
 use Rattle.sd_outside.specs.Kept.{Outside, Refreshed}
 use Rattle.sd_outside.proofs.SurfaceLaws.{all_synced, all_unmarked, surface_clean}
 use Rattle.sd_outside.proofs.surface.Surface.sync.Goals as goal

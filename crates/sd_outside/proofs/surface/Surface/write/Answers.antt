@@ -1,4 +1,4 @@
-use Rattle.std.proofs.Common.{◌≡◌, ◌+◌, ◌≤◌, length, List, ℕ, Bool, replicate, true, sym, ◌∙◌, ap, subst, arith}
+use Rattle.std.proofs.Common.{◌≡◌, ◌+◌, ◌≤◌, length, List, ℕ, Bool, sym, ap, subst, arith}
 use Rattle.sd_outside.specs.Ranges.{put}
 use Rattle.sd_outside.specs.Kept.{IsSurface}
 use Rattle.sd_outside.proofs.SurfaceLaws.{surface_written}
