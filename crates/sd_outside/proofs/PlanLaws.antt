@@ -1,5 +1,5 @@
 -- Laws of planned faults.
-use Rattle.std.proofs.Common.{◌≢◌, zero, suc, ◌||◌, ◌≡◌, inl, inr, ⊎_elim, ℕ, ◌+◌, ◌-◌, ◌<◌, ◌≤◌, List, [], ◌∷◌, get_or, Bool, true, refl, sym, ◌∙◌, ap, subst, arith}
+use Rattle.std.proofs.Common.{◌≢◌, zero, suc, ◌||◌, ◌≡◌, inl, inr, ⊎_elim, ℕ, ◌+◌, ◌-◌, ◌<◌, ◌≤◌, List, [], ◌∷◌, length, get_or, Bool, true, false, refl, sym, ◌∙◌, ap, subst, arith}
 use Rattle.std.proofs.lemmas.Bool.{cases_lt, cases_eq}
 use Rattle.std.proofs.lemmas.Bool.Decides.{nat_tests}
 use Rattle.std.specs.List.{list_any}
@@ -33,6 +33,13 @@ later-add m n (k ∷ ks) = ⊎_elim
     ∙ sym (ap (later n) (later_out m k ks high) ∙ later_out n (k - m) (later m ks) top))
     (cases_lt (k - m) n))
     (cases_lt k m)
+
+pub length-later : (n : ℕ) (ks : List ℕ) → length (later n ks) ≤ length ks
+length-later n [] = omega arith
+length-later n (k ∷ ks) = ⊎_elim
+    (λ (low : k < n). omega (arith, ap length (later_in n k ks low), length-later n ks))
+    (λ (high : n ≤ k). omega (arith, ap length (later_out n k ks high), length-later n ks))
+    (cases_lt k n)
 
 -- no number is left once all are below
 pub later_none : (n : ℕ) (ks : List ℕ) → ((i : ℕ) → get_or ks i 0 < n) → later n ks ≡ []
@@ -80,3 +87,31 @@ was_planned made numbers list plan fails same view is =
       λ yes. subst FailsNext view (fails_if made numbers (sym among ∙ yes)),
       λ next. among ∙ fails_only_if made numbers (subst FailsNext (sym view) next),
     )
+
+-- The next call takes a number out exactly if it is planned to fail.
+same_any : (n : ℕ) (rest : Bool) → (nat_eq n n || rest) ≡ false → ⊥
+same_any n rest same = grind (arith, nat_tests)
+
+pub drops : (n : ℕ) (ks : List ℕ) → list_any (λ k. nat_eq k n) ks ≡ true → length (later (n + 1) ks) < length (later n ks)
+drops n [] there = absurd (cc there)
+drops n (k ∷ ks) there = elim (cases_eq k n) [
+  | inl same ↦ omega (arith, ap length (later_in (n + 1) k ks (omega (arith, same))), ap length (later_out n k ks (omega (arith, same))), ap length (later-add n 1 ks), length-later 1 (later n ks))
+  | inr differs ↦
+      let rest = drops n ks (other_any k n (list_any (λ i. nat_eq i n) ks) true differs there) in
+      ⊎_elim
+      (λ (low : k < n). omega (arith, rest, ap length (later_in (n + 1) k ks (omega (arith, low))), ap length (later_in n k ks low)))
+      (λ (high : n ≤ k). omega (arith, rest, ap length (later_out (n + 1) k ks (omega (arith, high, differs))), ap length (later_out n k ks high)))
+      (cases_lt k n)
+]
+
+pub stays : (n : ℕ) (ks : List ℕ) → list_any (λ k. nat_eq k n) ks ≡ false → length (later (n + 1) ks) ≡ length (later n ks)
+stays n [] none = refl
+stays n (k ∷ ks) none = elim (cases_eq k n) [
+  | inl same ↦ absurd (same_any n (list_any (λ i. nat_eq i n) ks) (subst (λ (i : ℕ). (nat_eq i n || list_any (λ j. nat_eq j n) ks) ≡ false) same none))
+  | inr differs ↦
+      let rest = stays n ks (other_any k n (list_any (λ i. nat_eq i n) ks) false differs none) in
+      ⊎_elim
+      (λ (low : k < n). omega (arith, rest, ap length (later_in (n + 1) k ks (omega (arith, low))), ap length (later_in n k ks low)))
+      (λ (high : n ≤ k). omega (arith, rest, ap length (later_out (n + 1) k ks (omega (arith, high, differs))), ap length (later_out n k ks high)))
+      (cases_lt k n)
+]

@@ -1,5 +1,5 @@
 //! Faults that are planned.
-ghost use Rattle.std.specs.Prelude.{◌≡◌, ◌^◌, ◌<◌, ◌↔◌, ℕ, IfOk, IsTrue, nat_eq, slice_index};
+ghost use Rattle.std.specs.Prelude.{◌≡◌, ◌^◌, ◌<◌, ◌↔◌, ℕ, length, IfOk, IsTrue, nat_eq, slice_index};
 ghost use Rattle.std.specs.List.{list_any};
 ghost use Rattle.sd_outside.specs.Plan.{FailsNext, later};
 
@@ -38,6 +38,7 @@ impl Planned {
     pub(crate) fn next(&mut self) -> bool
         ensures fails { IsTrue result ↔ FailsNext self.old }
         ensures left { self.new ≡ later 1 self.old }
+        ensures taken { IsTrue result ↔ (length self.new < length self.old) }
     {
         let fails = is_among(&self.numbers, self.made);
         if self.made == u64::MAX {

@@ -1,0 +1,11 @@
+use Rattle.std.proofs.Common.{◌≡◌, ◌+◌, ◌-◌, take, drop, ap, ◌∙◌, arith}
+use Rattle.std.specs.Int.{w64, from_be_bytes}
+use Rattle.sd_outside.specs.Ranges.{part}
+use Rattle.sd_stable_disk.specs.Image.{word64}
+use Rattle.sd_stable_disk.proofs.entry.word64_at.Goals as goal
+
+pub returns : goal.returns
+unfolding part word64
+returns c =
+    let size : (c.args.at + 8) - c.args.at ≡ 8 = omega arith in
+    c.from_be_bytes.ensures ∙ ap (from_be_bytes w64) (c.copy_from_slice.ensures.after ∙ ap (λ n. take n (drop c.args.at c.args.bytes.now)) size)
