@@ -14,5 +14,6 @@ pub mod PacketLemmas
 pub mod ReadBack
 pub mod OneLine
 pub mod OneScript
+pub mod ConfigLemmas
 pub mod RuleLemmas
 pub mod IdLemmas

@@ -114,6 +114,7 @@ word_one words.Server old args a b x y = server_one old args a b x y
 word_one words.Client old args a b x y = client_one old args a b x y
 word_one words.Fate old args a b x y = fate_one old args a b x y
 word_one words.Addr old args a b x y = adds_one old commands.Addr commands.Addr a b refl x.adds y.adds
+word_one words.Boot old args a b x y = adds_one old commands.Boot commands.Boot a b refl x.adds y.adds
 
 -- a word is known by its spelling
 
@@ -121,7 +122,7 @@ abbrev word_at : Text → Word
 word_at text =
     cond (bytes_eq text (codes "life")) words.Life (cond (bytes_eq text (codes "tries")) words.Tries (cond (bytes_eq text (codes "wait")) words.Wait
     (cond (bytes_eq text (codes "pages")) words.Pages (cond (bytes_eq text (codes "server")) words.Server (cond (bytes_eq text (codes "client")) words.Client
-    (cond (bytes_eq text (codes "fate")) words.Fate words.Addr))))))
+    (cond (bytes_eq text (codes "fate")) words.Fate (cond (bytes_eq text (codes "addr")) words.Addr words.Boot)))))))
 
 word_back : (word : Word) → word_at (spelling word) ≡ word
 word_back words.Life = refl
@@ -132,6 +133,7 @@ word_back words.Server = refl
 word_back words.Client = refl
 word_back words.Fate = refl
 word_back words.Addr = refl
+word_back words.Boot = refl
 
 pub one_word : (a b : Word) → spelling a ≡ spelling b → a ≡ b
 one_word a b e = sym (word_back a) ∙ ap word_at e ∙ word_back b
@@ -146,6 +148,7 @@ word_starts words.Server = (omega arith, λ e. omega (arith, e))
 word_starts words.Client = (omega arith, λ e. omega (arith, e))
 word_starts words.Fate = (omega arith, λ e. omega (arith, e))
 word_starts words.Addr = (omega arith, λ e. omega (arith, e))
+word_starts words.Boot = (omega arith, λ e. omega (arith, e))
 
 onto_starts : (b : ℕ) (parts : List Text) (x : Text) (xs : List Text) → onto_first b parts ≡ x ∷ xs → get_or x 0 0 ≡ b
 onto_starts b [] x xs e = ap (λ (t : Text). get_or t 0 0) (sym (firsts e))

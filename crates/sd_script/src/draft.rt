@@ -29,6 +29,7 @@ pub enum Word {
     Client,
     Fate,
     Addr,
+    Boot,
 }
 
 /// What the lines so far say, and which may come next. A value whose line hasn't come is zero or empty.

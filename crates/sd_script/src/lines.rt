@@ -12,7 +12,7 @@ mod heading;
 use crate::draft::{Draft, Section, Word};
 use crate::error::LineError;
 use crate::parts::Parts;
-use commands::{addr_line, wait_command_line};
+use commands::{addr_line, boot_line, wait_command_line};
 use events::fate_line;
 use heading::{client_line, life_line, pages_line, server_line, tries_line, wait_line};
 use std::alloc::Global;
@@ -30,6 +30,7 @@ fn word_of(text: &[u8]) -> Option<Word>
         b"client" => Some(Word::Client),
         b"fate" => Some(Word::Fate),
         b"addr" => Some(Word::Addr),
+        b"boot" => Some(Word::Boot),
         _ => None,
     }
 }
@@ -62,6 +63,7 @@ fn word_line(
         Word::Client => client_line(alloc, draft, fields),
         Word::Fate => fate_line(alloc, draft, fields),
         Word::Addr => addr_line(draft, fields),
+        Word::Boot => boot_line(draft, fields),
     }
 }
 

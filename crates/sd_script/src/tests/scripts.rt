@@ -35,7 +35,7 @@ fn refused(rt: &HostRuntime, text: &[u8]) -> Result<Option<u64>, NoMemory> {
 
 #[test]
 fn reads_what_the_lines_say(rt: HostRuntime) -> Result<(), Fail> {
-    let more = b"# a comment\n\nfate 29 9 1\nfate 3 none\naddr\n#\nwait 100000";
+    let more = b"# a comment\n\nfate 29 9 1\nfate 3 none\naddr\n#\nwait 100000\nboot";
     let text = with_line(&rt, 0, b"", more)?;
     let Ok(script) = read_script(rt.alloc(), text.as_slice()) else {
         assert!(rt; false, "refused");
@@ -62,7 +62,12 @@ fn reads_what_the_lines_say(rt: HostRuntime) -> Result<(), Fail> {
         }
         _ => assert!(rt; false, "other fates"),
     }
-    let commands = [Command::Addr, Command::Wait { ticks: 100_000 }];
+    let commands = [
+        Command::Addr,
+        Command::Wait { ticks: 100_000 },
+        Command::Boot,
+    ];
+    assert_eq!(rt; script.config.kernel.as_slice(), b"/vmunix".as_slice());
     assert_eq!(rt; script.commands.as_slice(), commands.as_slice());
     Ok(())
 }
@@ -166,7 +171,7 @@ fn judges_lines_of_the_heading(rt: HostRuntime) -> Result<(), Fail> {
 }
 
 /// What follows the heading, with the number of the refused line, or none.
-const AFTER: [(&[u8], Option<u64>); 40] = [
+const AFTER: [(&[u8], Option<u64>); 42] = [
     (b"", None),
     (b"addr", None),
     (b"wait 1\nwait 100000\naddr\n", None),
@@ -199,7 +204,9 @@ const AFTER: [(&[u8], Option<u64>); 40] = [
     (b"wait 01\n", Some(7)),
     (b"wait\n", Some(7)),
     (b"life 10\n", Some(7)),
-    (b"boot\n", Some(7)),
+    (b"boot\naddr\nboot", None),
+    (b"boot \n", Some(7)),
+    (b"boot 1\n", Some(7)),
     (b"tftp A 00\n", Some(7)),
     (b"crash 1 1 1 1\n", Some(7)),
     (b"fault send 1\n", Some(7)),
