@@ -1,13 +1,17 @@
 -- Lines in the grammar make a script that keeps the rules.
-use Rattle.std.proofs.Common.{◌≡◌, ℕ, ◌-◌, ◌<◌, ◌≤◌, ◌^◌, List, [], ◌∷◌, length, refl, sym, ap, subst, inl, inr, arith, length-append}
+use Rattle.std.proofs.Common.{◌≡◌, ℕ, ◌+◌, ◌-◌, ◌<◌, ◌≤◌, ◌^◌, List, [], ◌∷◌, ◌++◌, Option, Some, length, refl, sym, ap, subst, inl, inr, arith, length-append}
 use Rattle.std.specs.List.{All, AllZip}
 use Rattle.std.proofs.lemmas.List.Elements.{All-nil, All-cons, All-append}
 use Rattle.sd_link.specs.declared.config.Config.{Config}
 use Rattle.sd_link.specs.declared.config.Machine.{Machine}
+use Rattle.sd_link.specs.declared.config.BootFile.{BootFile}
+use Rattle.sd_link.specs.declared.config.RootItem.{RootItem}
+use Rattle.sd_link.specs.declared.config.RootItem.TheVariants as items
+use Rattle.sd_link.specs.declared.config.SwapLine.{SwapLine}
 use Rattle.sd_link.specs.declared.events.Fate.{Fate}
 use Rattle.sd_link.specs.Texts.{Text}
 use Rattle.sd_link.specs.Config as rules
-use Rattle.sd_link.specs.Config.{IsConfig, IsWithin}
+use Rattle.sd_link.specs.Config.{IsConfig, IsWithin, bytes_of}
 use Rattle.sd_link.specs.Events.{IsFate}
 use Rattle.sd_script.specs.declared.script.Command.{Command}
 use Rattle.sd_script.specs.declared.script.Command.TheVariants as commands
@@ -19,10 +23,10 @@ use Rattle.sd_script.specs.declared.draft.Word.{Word}
 use Rattle.sd_script.specs.declared.draft.Word.TheVariants as words
 use Rattle.sd_script.specs.Limits.{command_limit}
 use Rattle.sd_script.specs.Texts.{IsNumber}
-use Rattle.sd_script.specs.Lines.{IsMachine, LifeLine, TriesLine, WaitLine, PagesLine, ServerLine, ClientLine, MayBeEvent, MayBeCommand, IsDelays, FateLine, AddsCommand, Differ, with_config, with_fate, with_command}
+use Rattle.sd_script.specs.Lines.{IsMachine, LifeLine, TriesLine, WaitLine, PagesLine, ServerLine, ClientLine, ArchLine, TftpLine, RootLine, FileLine, LinkLine, KernelLine, SwapFileLine, HasRoom, MayAddBootFile, MayAddItem, MayBeEvent, MayBeCommand, IsDelays, FateLine, AddsCommand, Differ, with_config, with_boot_file, with_item, with_fate, with_command}
 use Rattle.sd_script.specs.Grammar.{WordLine, IsLine, Leads, without_feed, blank, kernel_or_usual, script_of, IsScript}
 use Rattle.sd_script.specs.Rules.{IsCommand, KeepsRules}
-use Rattle.sd_script.proofs.ConfigLemmas.{KeepsLines, no_lines, usual_or_named}
+use Rattle.sd_script.proofs.ConfigLemmas.{KeepsLines, size_of, no_lines, usual_or_named, sum_with_boot_file, sum_with_item, arch_lined, tftp_lined, root_lined, item_lined, kernel_lined, swap_lined}
 
 -- how many lines of the heading stand before a section
 abbrev stage : Section → ℕ
@@ -55,6 +59,7 @@ Headed n c = IsHeaded n c.life c.tries c.wait c.pages c.server c.client c.domain
 record KeepsSoFar (d : Draft) : Type 0 where
   headed : Headed (stage d.section) d.config
   lines : KeepsLines d.config
+  sum : d.bytes ≡ bytes_of d.config
   early : stage d.section < 6 → d.fates ≡ []
   fates : All (IsFate d.config.life) d.fates
   commands : All IsCommand d.commands
@@ -74,10 +79,11 @@ none : {X : Type 0} (P : X → Type 0) (xs : List X) → xs ≡ [] → All P xs
 none P xs e = subst (λ l. All P l) (sym e) (All-nil P)
 
 -- the draft with another configuration, before the heading's end
-heads : (old : Draft) (section : Section) (c : Config) → KeepsSoFar old → stage old.section < 6 → Headed (stage section) c → KeepsLines c → KeepsSoFar (with_config old section c)
-heads old section c k early h lines = record {
+heads : (old : Draft) (section : Section) (c : Config) → KeepsSoFar old → stage old.section < 6 → Headed (stage section) c → KeepsLines c → old.bytes ≡ bytes_of c → KeepsSoFar (with_config old section c)
+heads old section c k early h lines sum = record {
   headed = h;
   lines = lines;
+  sum = sum;
   early = λ _. k.early early;
   fates = none (IsFate c.life) old.fates (k.early early);
   commands = k.commands;
@@ -102,7 +108,7 @@ life_kept old args new l k = subst KeepsSoFar (sym l.means) (heads old sections.
   domain = λ h. absurd (omega (arith, h));
   router = λ h. absurd (omega (arith, h));
   differ = λ h. absurd (omega (arith, h));
-} k.lines)
+} k.lines k.sum)
 
 tries_kept : (old : Draft) (args : List Text) (new : Draft) → TriesLine old args new → KeepsSoFar old → KeepsSoFar new
 tries_kept old args new l k =
@@ -117,7 +123,7 @@ tries_kept old args new l k =
       domain = λ h. absurd (omega (arith, h));
       router = λ h. absurd (omega (arith, h));
       differ = λ h. absurd (omega (arith, h));
-    } k.lines)
+    } k.lines k.sum)
 
 wait_kept : (old : Draft) (args : List Text) (new : Draft) → WaitLine old args new → KeepsSoFar old → KeepsSoFar new
 wait_kept old args new l k =
@@ -132,7 +138,7 @@ wait_kept old args new l k =
       domain = λ h. absurd (omega (arith, h));
       router = λ h. absurd (omega (arith, h));
       differ = λ h. absurd (omega (arith, h));
-    } k.lines)
+    } k.lines k.sum)
 
 pages_kept : (old : Draft) (args : List Text) (new : Draft) → PagesLine old args new → KeepsSoFar old → KeepsSoFar new
 pages_kept old args new l k =
@@ -147,7 +153,7 @@ pages_kept old args new l k =
       domain = λ h. absurd (omega (arith, h));
       router = λ h. absurd (omega (arith, h));
       differ = λ h. absurd (omega (arith, h));
-    } k.lines)
+    } k.lines k.sum)
 
 server_kept : (old : Draft) (args : List Text) (new : Draft) → ServerLine old args new → KeepsSoFar old → KeepsSoFar new
 server_kept old args new l k =
@@ -162,7 +168,7 @@ server_kept old args new l k =
       domain = λ h. absurd (omega (arith, h));
       router = λ h. absurd (omega (arith, h));
       differ = λ h. absurd (omega (arith, h));
-    } k.lines)
+    } k.lines k.sum)
 
 client_kept : (old : Draft) (args : List Text) (new : Draft) → ClientLine old args new → KeepsSoFar old → KeepsSoFar new
 client_kept old args new l k =
@@ -177,7 +183,87 @@ client_kept old args new l k =
       domain = λ _. l.domain_name;
       router = λ _. l.is_router.fits;
       differ = λ _. l.differ;
-    } k.lines)
+    } k.lines k.sum)
+
+-- the draft with another configuration, after the heading
+lined : (old : Draft) (c : Config) → KeepsSoFar old → Headed 6 c → All (IsFate c.life) old.fates → KeepsLines c → old.bytes ≡ bytes_of c → KeepsSoFar (with_config old sections.Config c)
+lined old c k h fates lines sum = record {
+  headed = h;
+  lines = lines;
+  sum = sum;
+  early = λ h. absurd (omega (arith, h));
+  fates = fates;
+  commands = k.commands;
+  few = k.few;
+}
+
+arch_kept : (old : Draft) (args : List Text) (new : Draft) → ArchLine old args new → KeepsSoFar old → KeepsSoFar new
+arch_kept old args new l k =
+    let c = old.config in
+    let lines = arch_lined c.arch c.tftp c.root c.items c.kernel c.swap k.lines l.name l.is_name in
+    subst KeepsSoFar (sym l.means) (lined old (record c { arch = l.name }) k (came old sections.Config l.place k) k.fates lines k.sum)
+
+kernel_kept : (old : Draft) (args : List Text) (new : Draft) → KernelLine old args new → KeepsSoFar old → KeepsSoFar new
+kernel_kept old args new l k =
+    let c = old.config in
+    let lines = kernel_lined c.arch c.tftp c.root c.items c.kernel c.swap k.lines l.path l.is_path in
+    subst KeepsSoFar (sym l.means) (lined old (record c { kernel = l.path }) k (came old sections.Config l.place k) k.fates lines k.sum)
+
+root_kept : (old : Draft) (args : List Text) (new : Draft) → RootLine old args new → KeepsSoFar old → KeepsSoFar new
+root_kept old args new l k =
+    let c = old.config in
+    let lines = root_lined c.arch c.tftp c.root c.items c.kernel c.swap k.lines l.path l.is_path l.may.1 in
+    subst KeepsSoFar (sym l.means) (lined old (record c { root = Some l.path }) k (came old sections.Config l.place k) k.fates lines k.sum)
+
+swap_kept : (old : Draft) (args : List Text) (new : Draft) → SwapFileLine old args new → KeepsSoFar old → KeepsSoFar new
+swap_kept old args new l k =
+    let c = old.config in
+    let swap : SwapLine = record { path = l.path; size = l.size } in
+    let is : rules.IsSwap swap = record { path = l.is_path; size = within 8192 33554432 l.is_size } in
+    let lines = swap_lined c.arch c.tftp c.root c.items c.kernel c.swap k.lines swap is l.may.1 in
+    subst KeepsSoFar (sym l.means) (lined old (record c { swap = Some swap }) k (came old sections.Config l.place k) k.fates lines k.sum)
+
+boot_file_kept : (old : Draft) (file : BootFile) → old.section ≡ sections.Config → MayAddBootFile old.config.tftp file.name → rules.IsBootFile file → HasRoom old (length file.bytes) → KeepsSoFar old → KeepsSoFar (with_boot_file old file)
+boot_file_kept old file place may is room k =
+    let c = old.config in
+    let sum : old.bytes + length file.bytes ≡ size_of (c.tftp ++ file ∷ []) c.items = omega (arith, k.sum, sum_with_boot_file c.tftp c.items file) in
+    record {
+      headed = k.headed;
+      lines = tftp_lined c.arch c.tftp c.root c.items c.kernel c.swap k.lines file may is (omega (arith, room, k.sum));
+      sum = sum;
+      early = k.early;
+      fates = k.fates;
+      commands = k.commands;
+      few = k.few;
+    }
+
+tftp_kept : (old : Draft) (args : List Text) (new : Draft) → TftpLine old args new → KeepsSoFar old → KeepsSoFar new
+tftp_kept old args new l k =
+    let may : MayAddBootFile old.config.tftp l.file.name = subst (MayAddBootFile old.config.tftp) (sym l.same_name) l.may in
+    let is : rules.IsBootFile l.file = record { name = subst rules.IsName (sym l.same_name) l.is_name; most = l.runs.within } in
+    subst KeepsSoFar (sym l.means) (boot_file_kept old l.file l.place may is l.room k)
+
+item_kept : (old : Draft) (item : RootItem) → old.section ≡ sections.Config → MayAddItem old.config.items (rules.item_path item) → rules.IsRootItem item → HasRoom old (rules.item_size item) → KeepsSoFar old → KeepsSoFar (with_item old item)
+item_kept old item place may is room k =
+    let c = old.config in
+    let sum : old.bytes + rules.item_size item ≡ size_of c.tftp (c.items ++ item ∷ []) = omega (arith, k.sum, sum_with_item c.tftp c.items item) in
+    record {
+      headed = k.headed;
+      lines = item_lined c.arch c.tftp c.root c.items c.kernel c.swap k.lines item may is (omega (arith, room, k.sum));
+      sum = sum;
+      early = k.early;
+      fates = k.fates;
+      commands = k.commands;
+      few = k.few;
+    }
+
+file_kept : (old : Draft) (args : List Text) (new : Draft) → FileLine old args new → KeepsSoFar old → KeepsSoFar new
+file_kept old args new l k = subst KeepsSoFar (sym l.means) (item_kept old (items.File l.path l.content) l.place l.may (l.is_path, l.runs.within) l.room k)
+
+link_kept : (old : Draft) (args : List Text) (new : Draft) → LinkLine old args new → KeepsSoFar old → KeepsSoFar new
+link_kept old args new l k =
+    let full : HasRoom old 0 = omega (arith, k.sum, k.lines.bytes) in
+    subst KeepsSoFar (sym l.means) (item_kept old (items.Symlink l.path l.target) l.place l.may (l.is_path, l.is_target) full k)
 
 delays_kept : (most : ℕ) (args : List Text) (delays : List ℕ) → AllZip (IsNumber 1 most) args delays → All (IsWithin 1 most) delays × (length delays ≤ length args)
 delays_kept most [] [] z = (All-nil (IsWithin 1 most), omega arith)
@@ -212,6 +298,7 @@ fate_kept old args new l k =
     let kept : KeepsSoFar (with_fate old l.fate) = record {
       headed = headed_on old at k;
       lines = k.lines;
+      sum = k.sum;
       early = λ h. absurd (omega (arith, h));
       fates = All-append P old.fates (l.fate ∷ []) k.fates (All-cons P l.fate [] is (All-nil P));
       commands = k.commands;
@@ -225,6 +312,7 @@ adds_kept old command new is l k =
     let kept : KeepsSoFar (with_command old command) = record {
       headed = headed_on old at k;
       lines = k.lines;
+      sum = k.sum;
       early = λ h. absurd (omega (arith, h));
       fates = k.fates;
       commands = All-append IsCommand old.commands (command ∷ []) k.commands (All-cons IsCommand command [] is (All-nil IsCommand));
@@ -239,6 +327,13 @@ word_kept words.Wait old args new l k = elim l [ inl h ↦ wait_kept old args ne
 word_kept words.Pages old args new l k = pages_kept old args new l k
 word_kept words.Server old args new l k = server_kept old args new l k
 word_kept words.Client old args new l k = client_kept old args new l k
+word_kept words.Arch old args new l k = arch_kept old args new l k
+word_kept words.Tftp old args new l k = tftp_kept old args new l k
+word_kept words.Root old args new l k = root_kept old args new l k
+word_kept words.File old args new l k = file_kept old args new l k
+word_kept words.Link old args new l k = link_kept old args new l k
+word_kept words.Kernel old args new l k = kernel_kept old args new l k
+word_kept words.Swap old args new l k = swap_kept old args new l k
 word_kept words.Fate old args new l k = fate_kept old args new l k
 word_kept words.Addr old args new l k = adds_kept old commands.Addr new tt l.adds k
 word_kept words.Boot old args new l k = adds_kept old commands.Boot new tt l.adds k
@@ -264,6 +359,7 @@ blank_kept = record {
     differ = λ h. absurd (omega (arith, h));
   };
   lines = no_lines;
+  sum = refl;
   early = λ _. refl;
   fates = All-nil (IsFate 0);
   commands = All-nil IsCommand;

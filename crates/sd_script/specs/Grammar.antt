@@ -14,7 +14,7 @@ use Rattle.sd_script.specs.declared.error.ScriptError.TheVariants as errors
 use Rattle.sd_link.specs.Texts.{Text}
 use Rattle.sd_script.specs.Texts.{fields}
 use Rattle.sd_script.specs.Limits.{input_limit}
-use Rattle.sd_script.specs.Lines.{LifeLine, TriesLine, WaitLine, PagesLine, ServerLine, ClientLine, FateLine, AddrLine, BootLine, WaitCommandLine}
+use Rattle.sd_script.specs.Lines.{LifeLine, TriesLine, WaitLine, PagesLine, ServerLine, ClientLine, ArchLine, TftpLine, RootLine, FileLine, LinkLine, KernelLine, SwapFileLine, FateLine, AddrLine, BootLine, WaitCommandLine}
 
 -- the word with which a line begins
 abbrev pub spelling : Word → Text
@@ -24,6 +24,13 @@ spelling words.Wait = codes "wait"
 spelling words.Pages = codes "pages"
 spelling words.Server = codes "server"
 spelling words.Client = codes "client"
+spelling words.Arch = codes "arch"
+spelling words.Tftp = codes "tftp"
+spelling words.Root = codes "root"
+spelling words.File = codes "file"
+spelling words.Link = codes "link"
+spelling words.Kernel = codes "kernel"
+spelling words.Swap = codes "swap"
 spelling words.Fate = codes "fate"
 spelling words.Addr = codes "addr"
 spelling words.Boot = codes "boot"
@@ -36,6 +43,13 @@ WordLine words.Wait old args new = WaitLine old args new ⊎ WaitCommandLine old
 WordLine words.Pages old args new = PagesLine old args new
 WordLine words.Server old args new = ServerLine old args new
 WordLine words.Client old args new = ClientLine old args new
+WordLine words.Arch old args new = ArchLine old args new
+WordLine words.Tftp old args new = TftpLine old args new
+WordLine words.Root old args new = RootLine old args new
+WordLine words.File old args new = FileLine old args new
+WordLine words.Link old args new = LinkLine old args new
+WordLine words.Kernel old args new = KernelLine old args new
+WordLine words.Swap old args new = SwapFileLine old args new
 WordLine words.Fate old args new = FateLine old args new
 WordLine words.Addr old args new = AddrLine old args new
 WordLine words.Boot old args new = BootLine old args new
@@ -92,7 +106,7 @@ no_config = record {
 }
 
 abbrev pub blank : Draft
-blank = record { section = sections.Life; config = no_config; fates = []; commands = [] }
+blank = record { section = sections.Life; config = no_config; bytes = 0; fates = []; commands = [] }
 
 -- the kernel's path, and the usual one where no line names another
 abbrev pub kernel_or_usual : Text → Text

@@ -27,6 +27,13 @@ pub enum Word {
     Pages,
     Server,
     Client,
+    Arch,
+    Tftp,
+    Root,
+    File,
+    Link,
+    Kernel,
+    Swap,
     Fate,
     Addr,
     Boot,
@@ -37,6 +44,8 @@ pub enum Word {
 pub struct Draft {
     pub section: Section,
     pub config: Config,
+    /// How many bytes boot files and files of the root export have so far.
+    pub bytes: u64,
     pub fates: FateBook,
     pub commands: CommandList,
 }

@@ -48,6 +48,7 @@ fn blank_draft(alloc: Global) -> Draft
             kernel: ByteList::empty(alloc),
             swap: None,
         },
+        bytes: 0,
         fates: FateBook::empty(alloc),
         commands: CommandList::empty(alloc),
     }
