@@ -3,7 +3,7 @@ use Rattle.std.specs.Prelude.{◌≡◌, ◌⊎◌, ℕ, ◌+◌, ◌<◌, ◌�
 use Rattle.std.specs.List.{concat}
 use Rattle.std.specs.Fmt.{decimal}
 use Rattle.sd_outside.specs.declared.packet.Packet.{Packet}
-use Rattle.sd_link.specs.Text.{packet_text}
+use Rattle.sd_link.specs.Printing.{packet_text}
 use Rattle.sd_link.specs.Texts.{Text}
 use Rattle.sd_link.specs.Lawful.{IsFrontOf}
 use Rattle.sd_script.specs.Grammar.{lines, without_feed}

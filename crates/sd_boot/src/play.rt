@@ -22,7 +22,7 @@ pub(crate) fn play<K: Sink>(alloc: Global, script: Script, sink: &mut K) -> Resu
     ensures source { IsErrOf result Stop.SourceFault → ⊥ }
     ensures calm { OnOk result (K.faults sink.new ≡ K.faults sink.old) }
 {
-    let client = script.config.client(alloc)?;
+    let client = script.config.client()?;
     let commands = script.commands;
     let mut link = Segment::new(alloc, script.config, script.events);
     let done = session(alloc, &mut link, client, &commands, sink);

@@ -11,7 +11,7 @@ use Rattle.sd_link.specs.Events.{Fates, fates_of}
 use Rattle.sd_link.specs.Config.{IsFor}
 use Rattle.sd_link.specs.World.{World}
 use Rattle.sd_link.specs.Steps.{Step, Entry, History, world_of, whole_record, record_of, run}
-use Rattle.sd_link.specs.Text.{record_text, entry_text}
+use Rattle.sd_link.specs.Printing.{record_text, entry_text}
 use Rattle.sd_link.specs.Link.{GoesOn, Moves}
 use Rattle.sd_link.proofs.Histories.{record-append, record-goes, run-append, world-goes, moves_weaker}
 use Rattle.sd_script.specs.declared.script.Command.{Command}

@@ -4,7 +4,7 @@ ghost use Rattle.std.specs.List.{All};
 ghost use Rattle.sd_outside.specs.Causes.{Rose};
 ghost use Rattle.sd_link.specs.Config.{IsFor, IsClientConfig};
 ghost use Rattle.sd_link.specs.Steps.{whole_record};
-ghost use Rattle.sd_link.specs.Text.{record_text};
+ghost use Rattle.sd_link.specs.Printing.{record_text};
 ghost use Rattle.sd_link.specs.Link.{Moves};
 ghost use Rattle.sd_script.specs.Limits.{command_limit};
 ghost use Rattle.sd_script.specs.Rules.{IsCommand};

@@ -1,4 +1,5 @@
 pub mod Config
+pub mod Program
 pub mod Events
 pub mod World
 pub mod Reply
@@ -7,5 +8,5 @@ pub mod Parts
 pub mod Link
 pub mod Texts
 pub mod Runs
-pub mod Text
+pub mod Printing
 pub mod Lawful

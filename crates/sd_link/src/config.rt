@@ -2,7 +2,7 @@
 ghost use Rattle.std.specs.Prelude.{IfOk};
 ghost use Rattle.sd_link.specs.Config.{IsConfig, IsFor, IsClientConfig};
 
-use sd_outside::{ByteList, Mac, NoMemory};
+use sd_outside::{ByteList, ListOf, Mac, NoMemory};
 use std::alloc::Global;
 
 /// One of the two machines.
@@ -14,6 +14,39 @@ pub struct Machine {
     pub ip: u32,
     /// Its host name, 1 to 255 bytes.
     pub name: ByteList,
+}
+
+/// A file that the server gives by TFTP.
+#[derive(Debug, Drop)]
+pub struct BootFile {
+    /// The name that a client asks for, 1 to 255 bytes.
+    pub name: ByteList,
+    /// At most 33,553,919 bytes.
+    pub bytes: ByteList,
+}
+
+/// A list of boot files.
+pub type BootFileList = ListOf<BootFile>;
+
+/// A file or a symbolic link of the root export. Its path is counted from the export's root.
+#[derive(Debug, Drop)]
+pub enum RootItem {
+    /// A file with its bytes, at most 33,554,432.
+    File { path: ByteList, bytes: ByteList },
+    /// A link with the path that it names, 1 to 1,024 bytes.
+    Symlink { path: ByteList, text: ByteList },
+}
+
+/// A list of files and links.
+pub type RootItemList = ListOf<RootItem>;
+
+/// The client's swap file.
+#[derive(Debug, Drop)]
+pub struct SwapLine {
+    /// The path under which it is exported.
+    pub path: ByteList,
+    /// Its size in bytes: 8,192 to 33,554,432.
+    pub size: u64,
 }
 
 /// The configuration of a client and its boot server.
@@ -35,6 +68,18 @@ pub struct Config {
     pub domain: ByteList,
     /// The internet address of the client's router.
     pub router: u32,
+    /// The name of the client's architecture, which ends its boot program's name; empty where there is none.
+    pub arch: ByteList,
+    /// The files that TFTP serves, at most 16.
+    pub tftp: BootFileList,
+    /// The path under which the root file system is exported, where it is.
+    pub root: Option<ByteList>,
+    /// The files and links of the root export, at most 256.
+    pub items: RootItemList,
+    /// The path of the kernel in the root export.
+    pub kernel: ByteList,
+    /// The swap file, where there is one.
+    pub swap: Option<SwapLine>,
 }
 
 /// What a diskless client knows before it asks. The fields are those of `Config`.
@@ -50,11 +95,15 @@ pub struct ClientConfig {
     pub wait: u64,
     /// The number of pages.
     pub pages: u32,
+    /// The name of the client's architecture, empty where there is none.
+    pub arch: ByteList,
+    /// The path of the kernel.
+    pub kernel: ByteList,
 }
 
 impl Config {
     /// What the client of this configuration is given.
-    pub fn client(&self, _alloc: Global) -> Result<ClientConfig, NoMemory>
+    pub fn client(&self) -> Result<ClientConfig, NoMemory>
         requires { IsConfig self.now }
         ensures same { IfOk result (λ client. IsFor self.now client) }
         ensures rules { IfOk result IsClientConfig }
@@ -65,6 +114,8 @@ impl Config {
             tries: self.tries,
             wait: self.wait,
             pages: self.pages,
+            arch: self.arch.copy()?,
+            kernel: self.kernel.copy()?,
         })
     }
 }

@@ -1,7 +1,7 @@
 //! The network between a client and its boot server: the configuration, the world with its steps, and a link into it.
 //!
 //! The definitions in `specs/` say what may happen between the two machines (`World`, `Steps`), what a server replies
-//! (`Reply`), whose turn it is (`Lawful`) and how each step is written (`Text`). The trait `Link` is the client's only way
+//! (`Reply`), whose turn it is (`Lawful`) and how each step is written (`Printing`). The trait `Link` is the client's only way
 //! into that world; its contract says what each call does to the history that a link tells.
 #![tactic(auto)]
 
@@ -9,6 +9,8 @@ mod config;
 mod events;
 mod link;
 
-pub use config::{ClientConfig, Config, Machine};
+pub use config::{
+    BootFile, BootFileList, ClientConfig, Config, Machine, RootItem, RootItemList, SwapLine,
+};
 pub use events::{Events, Fate, FateList, TickList};
 pub use link::{Link, LinkError, Stage};

@@ -1,7 +1,7 @@
 //! The client's way into the world.
 ghost use Rattle.std.specs.Prelude.{◌≡◌, ℕ, ◌≤◌, ◌++◌, List, length, Option, OnOk, OnErr, IfSome};
 ghost use Rattle.sd_link.specs.Steps.{History, whole_record};
-ghost use Rattle.sd_link.specs.Text.{record_text};
+ghost use Rattle.sd_link.specs.Printing.{record_text};
 ghost use Rattle.sd_link.specs.Link.{Moves, IsNow, Sends, Receives, LinkCause, Counts, last_tick, Drains, IsBounded};
 
 use sd_outside::{ByteList, NoMemory, Packet};
@@ -20,6 +20,10 @@ pub enum LinkError {
 pub enum Stage {
     /// Asking for its own address.
     Rarp,
+    /// Fetching its boot program.
+    Tftp,
+    /// Asking for its own name.
+    Whoami,
     /// Letting time pass.
     Wait,
 }

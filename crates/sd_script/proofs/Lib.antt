@@ -6,13 +6,16 @@ pub mod HexCase
 pub mod CutLemmas
 pub mod PlaceLemmas
 pub mod ItemLemmas
+pub mod PathLemmas
 pub mod JudgeLemmas
 pub mod ScriptLemmas
 pub mod MacLemmas
 pub mod DelayLemmas
 pub mod PacketLemmas
 pub mod ReadBack
+pub mod OneConfigLine
 pub mod OneLine
 pub mod OneScript
+pub mod ConfigLemmas
 pub mod RuleLemmas
 pub mod IdLemmas

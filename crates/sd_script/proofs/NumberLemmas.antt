@@ -1,5 +1,5 @@
 -- The text of a number, and what `parse` says of it.
-use Rattle.std.proofs.Common.{◌≡◌, ℕ, ◌<◌, ◌^◌, [], ◌∷◌, get_or, Ok, refl, sym, ◌∙◌, inl, inr, arith}
+use Rattle.std.proofs.Common.{◌≡◌, ℕ, ◌<◌, ◌^◌, [], ◌∷◌, get_or, Ok, refl, sym, subst, ◌∙◌, inl, inr, arith}
 use Rattle.std.specs.Fmt.{decimal}
 use Rattle.std.specs.Str.Parse.{ParsesUnsigned, AllDigits, digits_value}
 use Rattle.std.proofs.lemmas.Fmt.{decimal_digit, first_decimal, decimal_injective, decimal-digits_value}
@@ -31,3 +31,7 @@ parsed_decimal text n plain h =
 -- one text has one value
 pub one_number : (least most : ℕ) (text : Text) (a b : ℕ) → IsNumber least most text a → IsNumber least most text b → a ≡ b
 one_number least most text a b x y = decimal_injective a b x.fits y.fits (sym x.is ∙ y.is)
+
+-- equal texts have equal values
+pub same_number : (least most : ℕ) {f g : Text} (m n : ℕ) → f ≡ g → IsNumber least most f m → IsNumber least most g n → m ≡ n
+same_number least most {f} {g} m n e x y = one_number least most g m n (subst (λ (t : Text). IsNumber least most t m) e x) y

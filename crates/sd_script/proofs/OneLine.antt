@@ -13,15 +13,13 @@ use Rattle.sd_script.specs.Texts.{fields, IsNumber, IsIp}
 use Rattle.sd_script.specs.Lines.{IsMachine, LifeLine, TriesLine, WaitLine, PagesLine, ServerLine, ClientLine, IsDelays, FateLine, AddsCommand, WaitCommandLine}
 use Rattle.sd_script.specs.Grammar.{spelling, WordLine, IsSkipped, IsWordLine, IsLine}
 use Rattle.sd_script.proofs.Exits.{firsts, others}
-use Rattle.sd_script.proofs.NumberLemmas.{one_number}
+use Rattle.sd_script.proofs.NumberLemmas.{one_number, same_number}
 use Rattle.sd_script.proofs.MacLemmas.{one_ip, one_machine}
 use Rattle.sd_script.proofs.DelayLemmas.{zip-at, no_number}
 use Rattle.sd_script.proofs.JudgeLemmas.{not_in_heading}
+use Rattle.sd_script.proofs.OneConfigLine.{arch_one, tftp_one, root_one, file_one, link_one, kernel_one, swap_one}
 
 -- equal fields have equal values
-
-same_number : (least most : ℕ) {f g : Text} (m n : ℕ) → f ≡ g → IsNumber least most f m → IsNumber least most g n → m ≡ n
-same_number least most {f} {g} m n e x y = one_number least most g m n (subst (λ (t : Text). IsNumber least most t m) e x) y
 
 same_ip : {f g : Text} (m n : ℕ) → f ≡ g → IsIp f m → IsIp g n → m ≡ n
 same_ip {f} {g} m n e x y = one_ip g m n (subst (λ (t : Text). IsIp t m) e x) y
@@ -112,8 +110,16 @@ word_one words.Wait old args a b x y = elim x [
 word_one words.Pages old args a b x y = pages_one old args a b x y
 word_one words.Server old args a b x y = server_one old args a b x y
 word_one words.Client old args a b x y = client_one old args a b x y
+word_one words.Arch old args a b x y = arch_one old args a b x y
+word_one words.Tftp old args a b x y = tftp_one old args a b x y
+word_one words.Root old args a b x y = root_one old args a b x y
+word_one words.File old args a b x y = file_one old args a b x y
+word_one words.Link old args a b x y = link_one old args a b x y
+word_one words.Kernel old args a b x y = kernel_one old args a b x y
+word_one words.Swap old args a b x y = swap_one old args a b x y
 word_one words.Fate old args a b x y = fate_one old args a b x y
 word_one words.Addr old args a b x y = adds_one old commands.Addr commands.Addr a b refl x.adds y.adds
+word_one words.Boot old args a b x y = adds_one old commands.Boot commands.Boot a b refl x.adds y.adds
 
 -- a word is known by its spelling
 
@@ -121,7 +127,9 @@ abbrev word_at : Text → Word
 word_at text =
     cond (bytes_eq text (codes "life")) words.Life (cond (bytes_eq text (codes "tries")) words.Tries (cond (bytes_eq text (codes "wait")) words.Wait
     (cond (bytes_eq text (codes "pages")) words.Pages (cond (bytes_eq text (codes "server")) words.Server (cond (bytes_eq text (codes "client")) words.Client
-    (cond (bytes_eq text (codes "fate")) words.Fate words.Addr))))))
+    (cond (bytes_eq text (codes "arch")) words.Arch (cond (bytes_eq text (codes "tftp")) words.Tftp (cond (bytes_eq text (codes "root")) words.Root
+    (cond (bytes_eq text (codes "file")) words.File (cond (bytes_eq text (codes "link")) words.Link (cond (bytes_eq text (codes "kernel")) words.Kernel
+    (cond (bytes_eq text (codes "swap")) words.Swap (cond (bytes_eq text (codes "fate")) words.Fate (cond (bytes_eq text (codes "addr")) words.Addr words.Boot))))))))))))))
 
 word_back : (word : Word) → word_at (spelling word) ≡ word
 word_back words.Life = refl
@@ -130,8 +138,16 @@ word_back words.Wait = refl
 word_back words.Pages = refl
 word_back words.Server = refl
 word_back words.Client = refl
+word_back words.Arch = refl
+word_back words.Tftp = refl
+word_back words.Root = refl
+word_back words.File = refl
+word_back words.Link = refl
+word_back words.Kernel = refl
+word_back words.Swap = refl
 word_back words.Fate = refl
 word_back words.Addr = refl
+word_back words.Boot = refl
 
 pub one_word : (a b : Word) → spelling a ≡ spelling b → a ≡ b
 one_word a b e = sym (word_back a) ∙ ap word_at e ∙ word_back b
@@ -144,8 +160,16 @@ word_starts words.Wait = (omega arith, λ e. omega (arith, e))
 word_starts words.Pages = (omega arith, λ e. omega (arith, e))
 word_starts words.Server = (omega arith, λ e. omega (arith, e))
 word_starts words.Client = (omega arith, λ e. omega (arith, e))
+word_starts words.Arch = (omega arith, λ e. omega (arith, e))
+word_starts words.Tftp = (omega arith, λ e. omega (arith, e))
+word_starts words.Root = (omega arith, λ e. omega (arith, e))
+word_starts words.File = (omega arith, λ e. omega (arith, e))
+word_starts words.Link = (omega arith, λ e. omega (arith, e))
+word_starts words.Kernel = (omega arith, λ e. omega (arith, e))
+word_starts words.Swap = (omega arith, λ e. omega (arith, e))
 word_starts words.Fate = (omega arith, λ e. omega (arith, e))
 word_starts words.Addr = (omega arith, λ e. omega (arith, e))
+word_starts words.Boot = (omega arith, λ e. omega (arith, e))
 
 onto_starts : (b : ℕ) (parts : List Text) (x : Text) (xs : List Text) → onto_first b parts ≡ x ∷ xs → get_or x 0 0 ≡ b
 onto_starts b [] x xs e = ap (λ (t : Text). get_or t 0 0) (sym (firsts e))

@@ -11,7 +11,7 @@ use Rattle.sd_script.specs.Texts.{fields, IsNumber, IsIp, IsAddr}
 use Rattle.sd_link.specs.Runs.{runs_text}
 use Rattle.sd_script.specs.Runs.{IsRunsWithin}
 use Rattle.sd_script.specs.Reading.{Reads}
-use Rattle.sd_link.specs.Text.{packet_text, entry_text}
+use Rattle.sd_link.specs.Printing.{packet_text, entry_text}
 use Rattle.sd_link.specs.Steps as steps
 use Rattle.sd_script.specs.Packets.{IsFrameLine, IsUdpLine, IsPacketLine}
 use Rattle.sd_script.specs.PacketWriting.{head_of_udp, head_of_sent}

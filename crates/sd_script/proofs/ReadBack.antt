@@ -6,7 +6,7 @@ use Rattle.std.specs.Prelude.{codes}
 use Rattle.std.specs.Int.{IsInRange, w32, to_be_bytes}
 use Rattle.sd_outside.specs.declared.packet.Addr.{Addr}
 use Rattle.sd_outside.specs.declared.packet.Packet.TheVariants.{Frame, Udp}
-use Rattle.sd_link.specs.Text.{packet_text}
+use Rattle.sd_link.specs.Printing.{packet_text}
 use Rattle.sd_script.specs.Packets.{AddrFits, IsPacket, IsPacketLine}
 use Rattle.sd_outside.specs.declared.packet.Packet.{Packet}
 use Rattle.std.proofs.lemmas.Bool.{eq-eqb, ne_eqb, cases_eq, cases_Bool, leb-true, false≢true, and_parts, not-true}

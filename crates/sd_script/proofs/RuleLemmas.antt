@@ -1,13 +1,17 @@
 -- Lines in the grammar make a script that keeps the rules.
-use Rattle.std.proofs.Common.{◌≡◌, ℕ, ◌-◌, ◌<◌, ◌≤◌, List, [], ◌∷◌, length, refl, sym, ap, subst, inl, inr, arith, length-append}
+use Rattle.std.proofs.Common.{◌≡◌, ℕ, ◌+◌, ◌-◌, ◌<◌, ◌≤◌, ◌^◌, List, [], ◌∷◌, ◌++◌, Option, Some, length, refl, sym, ap, subst, inl, inr, arith, length-append}
 use Rattle.std.specs.List.{All, AllZip}
 use Rattle.std.proofs.lemmas.List.Elements.{All-nil, All-cons, All-append}
 use Rattle.sd_link.specs.declared.config.Config.{Config}
 use Rattle.sd_link.specs.declared.config.Machine.{Machine}
+use Rattle.sd_link.specs.declared.config.BootFile.{BootFile}
+use Rattle.sd_link.specs.declared.config.RootItem.{RootItem}
+use Rattle.sd_link.specs.declared.config.RootItem.TheVariants as items
+use Rattle.sd_link.specs.declared.config.SwapLine.{SwapLine}
 use Rattle.sd_link.specs.declared.events.Fate.{Fate}
 use Rattle.sd_link.specs.Texts.{Text}
 use Rattle.sd_link.specs.Config as rules
-use Rattle.sd_link.specs.Config.{IsConfig, IsWithin}
+use Rattle.sd_link.specs.Config.{IsConfig, IsWithin, bytes_of}
 use Rattle.sd_link.specs.Events.{IsFate}
 use Rattle.sd_script.specs.declared.script.Command.{Command}
 use Rattle.sd_script.specs.declared.script.Command.TheVariants as commands
@@ -19,9 +23,10 @@ use Rattle.sd_script.specs.declared.draft.Word.{Word}
 use Rattle.sd_script.specs.declared.draft.Word.TheVariants as words
 use Rattle.sd_script.specs.Limits.{command_limit}
 use Rattle.sd_script.specs.Texts.{IsNumber}
-use Rattle.sd_script.specs.Lines.{IsMachine, LifeLine, TriesLine, WaitLine, PagesLine, ServerLine, ClientLine, MayBeEvent, MayBeCommand, IsDelays, FateLine, AddsCommand, with_config, with_fate, with_command}
-use Rattle.sd_script.specs.Grammar.{WordLine, IsLine, Leads, without_feed, blank, script_of, IsScript}
+use Rattle.sd_script.specs.Lines.{IsMachine, LifeLine, TriesLine, WaitLine, PagesLine, ServerLine, ClientLine, ArchLine, TftpLine, RootLine, FileLine, LinkLine, KernelLine, SwapFileLine, HasRoom, MayAddBootFile, MayAddItem, MayBeEvent, MayBeCommand, IsDelays, FateLine, AddsCommand, Differ, with_config, with_boot_file, with_item, with_fate, with_command}
+use Rattle.sd_script.specs.Grammar.{WordLine, IsLine, Leads, without_feed, blank, kernel_or_usual, script_of, IsScript}
 use Rattle.sd_script.specs.Rules.{IsCommand, KeepsRules}
+use Rattle.sd_script.proofs.ConfigLemmas.{KeepsLines, size_of, no_lines, usual_or_named, sum_with_boot_file, sum_with_item, arch_lined, tftp_lined, root_lined, item_lined, kernel_lined, swap_lined}
 
 -- how many lines of the heading stand before a section
 abbrev stage : Section → ℕ
@@ -35,18 +40,26 @@ stage sections.Config = 6
 stage sections.Events = 6
 stage sections.Commands = 6
 
--- what is known of the heading's lines once so many came
-record IsHeaded (n : ℕ) (c : Config) : Type 0 where
-  life : 1 ≤ n → IsWithin 2 10000 c.life
-  tries : 2 ≤ n → IsWithin 1 64 c.tries
-  wait : 3 ≤ n → IsWithin 1 1000 c.wait
-  pages : 4 ≤ n → IsWithin 1 4095 c.pages
-  server : 5 ≤ n → rules.IsMachine c.server
-  whole : 6 ≤ n → IsConfig c
+-- what is known of the heading's lines once so many came, of each value alone
+record IsHeaded (n l t w p : ℕ) (s c : Machine) (d : Text) (r : ℕ) : Type 0 where
+  life : 1 ≤ n → IsWithin 2 10000 l
+  tries : 2 ≤ n → IsWithin 1 64 t
+  wait : 3 ≤ n → IsWithin 1 1000 w
+  pages : 4 ≤ n → IsWithin 1 4095 p
+  server : 5 ≤ n → rules.IsMachine s
+  client : 6 ≤ n → rules.IsMachine c
+  domain : 6 ≤ n → rules.IsName d
+  router : 6 ≤ n → r < 2 ^ 32
+  differ : 6 ≤ n → Differ c s
+
+abbrev Headed : ℕ → Config → Type 0
+Headed n c = IsHeaded n c.life c.tries c.wait c.pages c.server c.client c.domain c.router
 
 -- the rules so far
 record KeepsSoFar (d : Draft) : Type 0 where
-  headed : IsHeaded (stage d.section) d.config
+  headed : Headed (stage d.section) d.config
+  lines : KeepsLines d.config
+  sum : d.bytes ≡ bytes_of d.config
   early : stage d.section < 6 → d.fates ≡ []
   fates : All (IsFate d.config.life) d.fates
   commands : All IsCommand d.commands
@@ -66,9 +79,11 @@ none : {X : Type 0} (P : X → Type 0) (xs : List X) → xs ≡ [] → All P xs
 none P xs e = subst (λ l. All P l) (sym e) (All-nil P)
 
 -- the draft with another configuration, before the heading's end
-heads : (old : Draft) (section : Section) (c : Config) → KeepsSoFar old → stage old.section < 6 → IsHeaded (stage section) c → KeepsSoFar (with_config old section c)
-heads old section c k early h = record {
+heads : (old : Draft) (section : Section) (c : Config) → KeepsSoFar old → stage old.section < 6 → Headed (stage section) c → KeepsLines c → old.bytes ≡ bytes_of c → KeepsSoFar (with_config old section c)
+heads old section c k early h lines sum = record {
   headed = h;
+  lines = lines;
+  sum = sum;
   early = λ _. k.early early;
   fates = none (IsFate c.life) old.fates (k.early early);
   commands = k.commands;
@@ -76,8 +91,8 @@ heads old section c k early h = record {
 }
 
 -- the lines of the heading that came, where the next is at this place
-came : (old : Draft) (section : Section) → old.section ≡ section → KeepsSoFar old → IsHeaded (stage section) old.config
-came old section at k = subst (λ s. IsHeaded (stage s) old.config) at k.headed
+came : (old : Draft) (section : Section) → old.section ≡ section → KeepsSoFar old → Headed (stage section) old.config
+came old section at k = subst (λ s. Headed (stage s) old.config) at k.headed
 
 early_at : (old : Draft) (section : Section) → old.section ≡ section → stage section < 6 → stage old.section < 6
 early_at old section at h = subst (λ s. stage s < 6) (sym at) h
@@ -89,8 +104,11 @@ life_kept old args new l k = subst KeepsSoFar (sym l.means) (heads old sections.
   wait = λ h. absurd (omega (arith, h));
   pages = λ h. absurd (omega (arith, h));
   server = λ h. absurd (omega (arith, h));
-  whole = λ h. absurd (omega (arith, h));
-})
+  client = λ h. absurd (omega (arith, h));
+  domain = λ h. absurd (omega (arith, h));
+  router = λ h. absurd (omega (arith, h));
+  differ = λ h. absurd (omega (arith, h));
+} k.lines k.sum)
 
 tries_kept : (old : Draft) (args : List Text) (new : Draft) → TriesLine old args new → KeepsSoFar old → KeepsSoFar new
 tries_kept old args new l k =
@@ -101,8 +119,11 @@ tries_kept old args new l k =
       wait = λ h. absurd (omega (arith, h));
       pages = λ h. absurd (omega (arith, h));
       server = λ h. absurd (omega (arith, h));
-      whole = λ h. absurd (omega (arith, h));
-    })
+      client = λ h. absurd (omega (arith, h));
+      domain = λ h. absurd (omega (arith, h));
+      router = λ h. absurd (omega (arith, h));
+      differ = λ h. absurd (omega (arith, h));
+    } k.lines k.sum)
 
 wait_kept : (old : Draft) (args : List Text) (new : Draft) → WaitLine old args new → KeepsSoFar old → KeepsSoFar new
 wait_kept old args new l k =
@@ -113,8 +134,11 @@ wait_kept old args new l k =
       wait = λ _. within 1 1000 l.number;
       pages = λ h. absurd (omega (arith, h));
       server = λ h. absurd (omega (arith, h));
-      whole = λ h. absurd (omega (arith, h));
-    })
+      client = λ h. absurd (omega (arith, h));
+      domain = λ h. absurd (omega (arith, h));
+      router = λ h. absurd (omega (arith, h));
+      differ = λ h. absurd (omega (arith, h));
+    } k.lines k.sum)
 
 pages_kept : (old : Draft) (args : List Text) (new : Draft) → PagesLine old args new → KeepsSoFar old → KeepsSoFar new
 pages_kept old args new l k =
@@ -125,8 +149,11 @@ pages_kept old args new l k =
       wait = λ _. c.wait (omega arith);
       pages = λ _. within 1 4095 l.number;
       server = λ h. absurd (omega (arith, h));
-      whole = λ h. absurd (omega (arith, h));
-    })
+      client = λ h. absurd (omega (arith, h));
+      domain = λ h. absurd (omega (arith, h));
+      router = λ h. absurd (omega (arith, h));
+      differ = λ h. absurd (omega (arith, h));
+    } k.lines k.sum)
 
 server_kept : (old : Draft) (args : List Text) (new : Draft) → ServerLine old args new → KeepsSoFar old → KeepsSoFar new
 server_kept old args new l k =
@@ -137,39 +164,106 @@ server_kept old args new l k =
       wait = λ _. c.wait (omega arith);
       pages = λ _. c.pages (omega arith);
       server = λ _. machine_kept l.server l.machine;
-      whole = λ h. absurd (omega (arith, h));
-    })
+      client = λ h. absurd (omega (arith, h));
+      domain = λ h. absurd (omega (arith, h));
+      router = λ h. absurd (omega (arith, h));
+      differ = λ h. absurd (omega (arith, h));
+    } k.lines k.sum)
 
 client_kept : (old : Draft) (args : List Text) (new : Draft) → ClientLine old args new → KeepsSoFar old → KeepsSoFar new
 client_kept old args new l k =
     let c = came old sections.Client l.place k in
-    let life = c.life (omega arith) in
-    let tries = c.tries (omega arith) in
-    let wait = c.wait (omega arith) in
-    let pages = c.pages (omega arith) in
-    let server = c.server (omega arith) in
-    let client = machine_kept l.client l.machine in
-    let other = old.config.server in
     subst KeepsSoFar (sym l.means) (heads old sections.Config (record old.config { client = l.client; domain = l.domain; router = l.router }) k (early_at old sections.Client l.place (omega arith)) record {
-      life = λ _. life;
-      tries = λ _. tries;
-      wait = λ _. wait;
-      pages = λ _. pages;
-      server = λ _. server;
-      whole = λ _. record {
-        life = life;
-        tries = tries;
-        wait = wait;
-        pages = pages;
-        server = server;
-        client = client;
-        domain = l.domain_name;
-        router = l.is_router.fits;
-        macs = λ e. l.differ.mac (ap (λ (b : List ℕ). record { 0 = b }) (sym e));
-        ips = λ e. l.differ.ip (sym e);
-        names = λ e. l.differ.name (sym e);
-      };
-    })
+      life = λ _. c.life (omega arith);
+      tries = λ _. c.tries (omega arith);
+      wait = λ _. c.wait (omega arith);
+      pages = λ _. c.pages (omega arith);
+      server = λ _. c.server (omega arith);
+      client = λ _. machine_kept l.client l.machine;
+      domain = λ _. l.domain_name;
+      router = λ _. l.is_router.fits;
+      differ = λ _. l.differ;
+    } k.lines k.sum)
+
+-- the draft with another configuration, after the heading
+lined : (old : Draft) (c : Config) → KeepsSoFar old → Headed 6 c → All (IsFate c.life) old.fates → KeepsLines c → old.bytes ≡ bytes_of c → KeepsSoFar (with_config old sections.Config c)
+lined old c k h fates lines sum = record {
+  headed = h;
+  lines = lines;
+  sum = sum;
+  early = λ h. absurd (omega (arith, h));
+  fates = fates;
+  commands = k.commands;
+  few = k.few;
+}
+
+arch_kept : (old : Draft) (args : List Text) (new : Draft) → ArchLine old args new → KeepsSoFar old → KeepsSoFar new
+arch_kept old args new l k =
+    let c = old.config in
+    let lines = arch_lined c.arch c.tftp c.root c.items c.kernel c.swap k.lines l.name l.is_name in
+    subst KeepsSoFar (sym l.means) (lined old (record c { arch = l.name }) k (came old sections.Config l.place k) k.fates lines k.sum)
+
+kernel_kept : (old : Draft) (args : List Text) (new : Draft) → KernelLine old args new → KeepsSoFar old → KeepsSoFar new
+kernel_kept old args new l k =
+    let c = old.config in
+    let lines = kernel_lined c.arch c.tftp c.root c.items c.kernel c.swap k.lines l.path l.is_path in
+    subst KeepsSoFar (sym l.means) (lined old (record c { kernel = l.path }) k (came old sections.Config l.place k) k.fates lines k.sum)
+
+root_kept : (old : Draft) (args : List Text) (new : Draft) → RootLine old args new → KeepsSoFar old → KeepsSoFar new
+root_kept old args new l k =
+    let c = old.config in
+    let lines = root_lined c.arch c.tftp c.root c.items c.kernel c.swap k.lines l.path l.is_path l.may.1 in
+    subst KeepsSoFar (sym l.means) (lined old (record c { root = Some l.path }) k (came old sections.Config l.place k) k.fates lines k.sum)
+
+swap_kept : (old : Draft) (args : List Text) (new : Draft) → SwapFileLine old args new → KeepsSoFar old → KeepsSoFar new
+swap_kept old args new l k =
+    let c = old.config in
+    let swap : SwapLine = record { path = l.path; size = l.size } in
+    let is : rules.IsSwap swap = record { path = l.is_path; size = within 8192 33554432 l.is_size } in
+    let lines = swap_lined c.arch c.tftp c.root c.items c.kernel c.swap k.lines swap is l.may.1 in
+    subst KeepsSoFar (sym l.means) (lined old (record c { swap = Some swap }) k (came old sections.Config l.place k) k.fates lines k.sum)
+
+boot_file_kept : (old : Draft) (file : BootFile) → old.section ≡ sections.Config → MayAddBootFile old.config.tftp file.name → rules.IsBootFile file → HasRoom old (length file.bytes) → KeepsSoFar old → KeepsSoFar (with_boot_file old file)
+boot_file_kept old file place may is room k =
+    let c = old.config in
+    let sum : old.bytes + length file.bytes ≡ size_of (c.tftp ++ file ∷ []) c.items = omega (arith, k.sum, sum_with_boot_file c.tftp c.items file) in
+    record {
+      headed = k.headed;
+      lines = tftp_lined c.arch c.tftp c.root c.items c.kernel c.swap k.lines file may is (omega (arith, room, k.sum));
+      sum = sum;
+      early = k.early;
+      fates = k.fates;
+      commands = k.commands;
+      few = k.few;
+    }
+
+tftp_kept : (old : Draft) (args : List Text) (new : Draft) → TftpLine old args new → KeepsSoFar old → KeepsSoFar new
+tftp_kept old args new l k =
+    let may : MayAddBootFile old.config.tftp l.file.name = subst (MayAddBootFile old.config.tftp) (sym l.same_name) l.may in
+    let is : rules.IsBootFile l.file = record { name = subst rules.IsName (sym l.same_name) l.is_name; most = l.runs.within } in
+    subst KeepsSoFar (sym l.means) (boot_file_kept old l.file l.place may is l.room k)
+
+item_kept : (old : Draft) (item : RootItem) → old.section ≡ sections.Config → MayAddItem old.config.items (rules.item_path item) → rules.IsRootItem item → HasRoom old (rules.item_size item) → KeepsSoFar old → KeepsSoFar (with_item old item)
+item_kept old item place may is room k =
+    let c = old.config in
+    let sum : old.bytes + rules.item_size item ≡ size_of c.tftp (c.items ++ item ∷ []) = omega (arith, k.sum, sum_with_item c.tftp c.items item) in
+    record {
+      headed = k.headed;
+      lines = item_lined c.arch c.tftp c.root c.items c.kernel c.swap k.lines item may is (omega (arith, room, k.sum));
+      sum = sum;
+      early = k.early;
+      fates = k.fates;
+      commands = k.commands;
+      few = k.few;
+    }
+
+file_kept : (old : Draft) (args : List Text) (new : Draft) → FileLine old args new → KeepsSoFar old → KeepsSoFar new
+file_kept old args new l k = subst KeepsSoFar (sym l.means) (item_kept old (items.File l.path l.content) l.place l.may (l.is_path, l.runs.within) l.room k)
+
+link_kept : (old : Draft) (args : List Text) (new : Draft) → LinkLine old args new → KeepsSoFar old → KeepsSoFar new
+link_kept old args new l k =
+    let full : HasRoom old 0 = omega (arith, k.sum, k.lines.bytes) in
+    subst KeepsSoFar (sym l.means) (item_kept old (items.Symlink l.path l.target) l.place l.may (l.is_path, l.is_target) full k)
 
 delays_kept : (most : ℕ) (args : List Text) (delays : List ℕ) → AllZip (IsNumber 1 most) args delays → All (IsWithin 1 most) delays × (length delays ≤ length args)
 delays_kept most [] [] z = (All-nil (IsWithin 1 most), omega arith)
@@ -193,8 +287,8 @@ whole_at_event s m = elim m [ inl e ↦ ap stage e | inr e ↦ ap stage e ]
 whole_at_command : (s : Section) → MayBeCommand s → stage s ≡ 6
 whole_at_command s m = elim m [ inl e ↦ ap stage e | inr f ↦ elim f [ inl e ↦ ap stage e | inr e ↦ ap stage e ] ]
 
-headed_on : (old : Draft) → stage old.section ≡ 6 → KeepsSoFar old → IsHeaded 6 old.config
-headed_on old at k = subst (λ n. IsHeaded n old.config) at k.headed
+headed_on : (old : Draft) → stage old.section ≡ 6 → KeepsSoFar old → Headed 6 old.config
+headed_on old at k = subst (λ n. Headed n old.config) at k.headed
 
 fate_kept : (old : Draft) (args : List Text) (new : Draft) → FateLine old args new → KeepsSoFar old → KeepsSoFar new
 fate_kept old args new l k =
@@ -203,6 +297,8 @@ fate_kept old args new l k =
     let P = IsFate old.config.life in
     let kept : KeepsSoFar (with_fate old l.fate) = record {
       headed = headed_on old at k;
+      lines = k.lines;
+      sum = k.sum;
       early = λ h. absurd (omega (arith, h));
       fates = All-append P old.fates (l.fate ∷ []) k.fates (All-cons P l.fate [] is (All-nil P));
       commands = k.commands;
@@ -215,6 +311,8 @@ adds_kept old command new is l k =
     let at = whole_at_command old.section l.place in
     let kept : KeepsSoFar (with_command old command) = record {
       headed = headed_on old at k;
+      lines = k.lines;
+      sum = k.sum;
       early = λ h. absurd (omega (arith, h));
       fates = k.fates;
       commands = All-append IsCommand old.commands (command ∷ []) k.commands (All-cons IsCommand command [] is (All-nil IsCommand));
@@ -229,8 +327,16 @@ word_kept words.Wait old args new l k = elim l [ inl h ↦ wait_kept old args ne
 word_kept words.Pages old args new l k = pages_kept old args new l k
 word_kept words.Server old args new l k = server_kept old args new l k
 word_kept words.Client old args new l k = client_kept old args new l k
+word_kept words.Arch old args new l k = arch_kept old args new l k
+word_kept words.Tftp old args new l k = tftp_kept old args new l k
+word_kept words.Root old args new l k = root_kept old args new l k
+word_kept words.File old args new l k = file_kept old args new l k
+word_kept words.Link old args new l k = link_kept old args new l k
+word_kept words.Kernel old args new l k = kernel_kept old args new l k
+word_kept words.Swap old args new l k = swap_kept old args new l k
 word_kept words.Fate old args new l k = fate_kept old args new l k
 word_kept words.Addr old args new l k = adds_kept old commands.Addr new tt l.adds k
+word_kept words.Boot old args new l k = adds_kept old commands.Boot new tt l.adds k
 
 line_kept : (old : Draft) (line : Text) (new : Draft) → IsLine old line new → KeepsSoFar old → KeepsSoFar new
 line_kept old line new l k = elim l [ inl skipped ↦ subst KeepsSoFar (sym skipped.1) k | inr w ↦ word_kept w.word old w.args new w.says k ]
@@ -247,17 +353,53 @@ blank_kept = record {
     wait = λ h. absurd (omega (arith, h));
     pages = λ h. absurd (omega (arith, h));
     server = λ h. absurd (omega (arith, h));
-    whole = λ h. absurd (omega (arith, h));
+    client = λ h. absurd (omega (arith, h));
+    domain = λ h. absurd (omega (arith, h));
+    router = λ h. absurd (omega (arith, h));
+    differ = λ h. absurd (omega (arith, h));
   };
+  lines = no_lines;
+  sum = refl;
   early = λ _. refl;
   fates = All-nil (IsFate 0);
   commands = All-nil IsCommand;
   few = omega arith;
 }
 
+-- a heading and configuration lines make a configuration
+config_kept : (c : Config) → Headed 6 c → KeepsLines c → IsConfig (record c { kernel = kernel_or_usual c.kernel })
+config_kept c h l =
+    let differ = h.differ (omega arith) in
+    record {
+      life = h.life (omega arith);
+      tries = h.tries (omega arith);
+      wait = h.wait (omega arith);
+      pages = h.pages (omega arith);
+      server = h.server (omega arith);
+      client = h.client (omega arith);
+      domain = h.domain (omega arith);
+      router = h.router (omega arith);
+      macs = λ e. differ.mac (ap (λ (b : List ℕ). record { 0 = b }) (sym e));
+      ips = λ e. differ.ip (sym e);
+      names = λ e. differ.name (sym e);
+      arch = l.arch;
+      tftp = l.tftp;
+      root = l.root;
+      items = l.items;
+      kernel = usual_or_named c.kernel l.kernel;
+      swap = l.swap;
+      exports = l.exports;
+      bytes = l.bytes;
+    }
+
 pub keeps_rules : (text : Text) (script : Script) → IsScript text script → KeepsRules script
 keeps_rules text script s =
     let k = leads_kept blank _ s.draft s.says.leads blank_kept in
     let at = whole_at_command s.draft.section s.whole in
-    let kept : KeepsRules (script_of s.draft) = record { config = (headed_on s.draft at k).whole (omega arith); events = record { fates = k.fates }; commands = k.commands; few = k.few } in
+    let kept : KeepsRules (script_of s.draft) = record {
+      config = config_kept s.draft.config (headed_on s.draft at k) k.lines;
+      events = record { fates = k.fates };
+      commands = k.commands;
+      few = k.few;
+    } in
     subst KeepsRules (sym s.means) kept

@@ -112,12 +112,13 @@ refused_here text rest draft number line after s next why =
 lines_all : (text rest : Text) (before : List Text) → rest ≡ [] → lines text ≡ before ++ lines rest → lines text ≡ before
 lines_all text rest before none e = e ∙ rw none (append-nil before)
 
-pub read_whole : (text rest : Text) (draft : Draft) (number : ℕ) → rest ≡ [] → IsSoFar text rest draft number → IsWhole draft.section → IsScript text (script_of draft)
-read_whole text rest draft number none s whole =
+pub all_read : (text rest : Text) (draft : Draft) (number : ℕ) → rest ≡ [] → IsSoFar text rest draft number → Says (lines text) draft × (number + 1 ≡ length (lines text) + 1)
+all_read text rest draft number none s =
     let all = lines_all text rest s.before none s.parted in
-    record { draft = draft; says = rw all s.says; whole = whole; means = refl }
+    (rw all s.says, ap (λ k. k + 1) (rw all s.count))
 
-pub ends_early : (text rest : Text) (draft : Draft) (number : ℕ) → rest ≡ [] → IsSoFar text rest draft number → (IsWhole draft.section → ⊥) → IsFirstOutside text (number + 1)
-ends_early text rest draft number none s early =
-    let all = lines_all text rest s.before none s.parted in
-    inr record { draft = draft; says = rw all s.says; early = early; number = rw all (ap (λ k. k + 1) s.count) }
+pub said_whole : (text : Text) (draft : Draft) → Says (lines text) draft → IsWhole draft.section → IsScript text (script_of draft)
+said_whole text draft says whole = record { draft = draft; says = says; whole = whole; means = refl }
+
+pub said_early : (text : Text) (draft : Draft) (n : ℕ) → Says (lines text) draft → n ≡ length (lines text) + 1 → (IsWhole draft.section → ⊥) → IsFirstOutside text n
+said_early text draft n says number early = inr record { draft = draft; says = says; early = early; number = number }

@@ -15,6 +15,12 @@ pub joined : (item : Item) (items : List Item) → join_with_byte 46 (map item_t
 joined item [] = sym (append-nil (item_text item))
 joined item (next ∷ items) = ap (λ (more : Text). item_text item ++ (46 ∷ more)) (joined next items)
 
+-- three texts, one after another
+pub written_in_turn : (a b c d first mid more : Text) → b ≡ a ++ first → c ≡ b ++ mid → d ≡ c ++ more → d ≡ a ++ ((first ++ mid) ++ more)
+written_in_turn a b c d first mid more x y z =
+    let two : c ≡ a ++ (first ++ mid) = y ∙ ap (λ (t : Text). t ++ mid) x ∙ append_assoc a first mid in
+    z ∙ ap (λ (t : Text). t ++ more) two ∙ append_assoc a (first ++ mid) more
+
 -- there are bytes, so there is an item
 pub record IsSome (items : List Item) : Type 0 where
   pub first : Item

@@ -1,5 +1,5 @@
 -- Which bytes are a script, and which line is the first outside the grammar.
-use Rattle.std.specs.Prelude.{◌≡◌, ℕ, ◌+◌, ◌<◌, ◌≤◌, ◌==◌, List, [], ◌∷◌, ◌++◌, length, codes, ◌⊎◌, if◌then◌else◌}
+use Rattle.std.specs.Prelude.{◌≡◌, ℕ, ◌+◌, ◌<◌, ◌≤◌, ◌==◌, List, [], ◌∷◌, ◌++◌, length, codes, Option, None, ◌⊎◌, if◌then◌else◌}
 use Rattle.std.specs.List.{onto_first, before_first, concat}
 use Rattle.sd_link.specs.declared.config.Machine.{Machine}
 use Rattle.sd_link.specs.declared.config.Config.{Config}
@@ -14,7 +14,7 @@ use Rattle.sd_script.specs.declared.error.ScriptError.TheVariants as errors
 use Rattle.sd_link.specs.Texts.{Text}
 use Rattle.sd_script.specs.Texts.{fields}
 use Rattle.sd_script.specs.Limits.{input_limit}
-use Rattle.sd_script.specs.Lines.{LifeLine, TriesLine, WaitLine, PagesLine, ServerLine, ClientLine, FateLine, AddrLine, WaitCommandLine}
+use Rattle.sd_script.specs.Lines.{LifeLine, TriesLine, WaitLine, PagesLine, ServerLine, ClientLine, ArchLine, TftpLine, RootLine, FileLine, LinkLine, KernelLine, SwapFileLine, FateLine, AddrLine, BootLine, WaitCommandLine}
 
 -- the word with which a line begins
 abbrev pub spelling : Word → Text
@@ -24,8 +24,16 @@ spelling words.Wait = codes "wait"
 spelling words.Pages = codes "pages"
 spelling words.Server = codes "server"
 spelling words.Client = codes "client"
+spelling words.Arch = codes "arch"
+spelling words.Tftp = codes "tftp"
+spelling words.Root = codes "root"
+spelling words.File = codes "file"
+spelling words.Link = codes "link"
+spelling words.Kernel = codes "kernel"
+spelling words.Swap = codes "swap"
 spelling words.Fate = codes "fate"
 spelling words.Addr = codes "addr"
+spelling words.Boot = codes "boot"
 
 -- a line with this word and these further fields leads from what the lines before it say to what they say with it
 abbrev pub WordLine : Word → Draft → List Text → Draft → Type 0
@@ -35,8 +43,16 @@ WordLine words.Wait old args new = WaitLine old args new ⊎ WaitCommandLine old
 WordLine words.Pages old args new = PagesLine old args new
 WordLine words.Server old args new = ServerLine old args new
 WordLine words.Client old args new = ClientLine old args new
+WordLine words.Arch old args new = ArchLine old args new
+WordLine words.Tftp old args new = TftpLine old args new
+WordLine words.Root old args new = RootLine old args new
+WordLine words.File old args new = FileLine old args new
+WordLine words.Link old args new = LinkLine old args new
+WordLine words.Kernel old args new = KernelLine old args new
+WordLine words.Swap old args new = SwapFileLine old args new
 WordLine words.Fate old args new = FateLine old args new
 WordLine words.Addr old args new = AddrLine old args new
+WordLine words.Boot old args new = BootLine old args new
 
 -- an empty line, and one that begins with `#`
 abbrev pub IsSkipped : Text → Type 0
@@ -72,14 +88,34 @@ abbrev pub no_machine : Machine
 no_machine = record { mac = record { 0 = 0 ∷ 0 ∷ 0 ∷ 0 ∷ 0 ∷ 0 ∷ [] }; ip = 0; name = [] }
 
 abbrev pub no_config : Config
-no_config = record { life = 0; tries = 0; wait = 0; pages = 0; server = no_machine; client = no_machine; domain = []; router = 0 }
+no_config = record {
+  life = 0;
+  tries = 0;
+  wait = 0;
+  pages = 0;
+  server = no_machine;
+  client = no_machine;
+  domain = [];
+  router = 0;
+  arch = [];
+  tftp = [];
+  root = None;
+  items = [];
+  kernel = [];
+  swap = None;
+}
 
 abbrev pub blank : Draft
-blank = record { section = sections.Life; config = no_config; fates = []; commands = [] }
+blank = record { section = sections.Life; config = no_config; bytes = 0; fates = []; commands = [] }
+
+-- the kernel's path, and the usual one where no line names another
+abbrev pub kernel_or_usual : Text → Text
+kernel_or_usual [] = codes "/vmunix"
+kernel_or_usual (b ∷ path) = b ∷ path
 
 -- the script that the draft is
 abbrev pub script_of : Draft → Script
-script_of draft = record { config = draft.config; events = record { fates = draft.fates }; commands = draft.commands }
+script_of draft = record { config = record draft.config { kernel = kernel_or_usual draft.config.kernel }; events = record { fates = draft.fates }; commands = draft.commands }
 
 -- all six lines of the heading came
 abbrev pub IsWhole : Section → Type 0

@@ -1,5 +1,5 @@
 -- What the functions that read the parts of a line, and whole lines, answer.
-use Rattle.std.specs.Prelude.{◌≡◌, ℕ, ◌-◌, ◌<◌, ◌≤◌, ◌++◌, length, ◌⊎◌, List, [], ◌∷◌, Result, Ok, Err}
+use Rattle.std.specs.Prelude.{◌≡◌, ℕ, ◌-◌, ◌<◌, ◌≤◌, ◌+◌, ◌++◌, length, ◌⊎◌, List, [], ◌∷◌, Result, Ok, Err}
 use denote.Ref.{Bor}
 use Rattle.sd_script.specs.declared.error.LineError.{LineError}
 use Rattle.sd_script.specs.declared.draft.Draft.{Draft}
@@ -8,6 +8,8 @@ use Rattle.sd_script.specs.Texts.{IsNumber}
 use Rattle.sd_link.specs.declared.config.Machine.{Machine}
 use Rattle.sd_script.specs.Lines.{IsMachine}
 use Rattle.sd_script.specs.Reading.{OnOutside}
+use Rattle.sd_script.specs.declared.error.ScriptError.{ScriptError}
+use Rattle.sd_script.specs.Grammar.{lines, Says, IsScriptError}
 
 -- A fact where it holds, and `Outside` only where it doesn't.
 abbrev pub Tells : Type 0 → Result Unit LineError → Type 0
@@ -43,3 +45,8 @@ TakesMachine old new (Err e) = OnOutside e ((mac ip name : Text) (rest : List Te
 abbrev pub ReadsDelay : ℕ → List ℕ → Text → List ℕ → Result Unit LineError → Type 0
 ReadsDelay life old text new (Ok done) = (delay : ℕ) × (length old < 8) × (new ≡ old ++ (delay ∷ [])) × IsNumber 1 (life - 1) text delay
 ReadsDelay life old text new (Err e) = OnOutside e ((8 ≤ length old) ⊎ ((delay : ℕ) → IsNumber 1 (life - 1) text delay → ⊥))
+
+-- All lines of the text say the draft, and n is one more than their number; or the text has a first line outside.
+abbrev pub ReadsLines : Text → Draft → Result ℕ ScriptError → Type 0
+ReadsLines text new (Ok n) = Says (lines text) new × (n ≡ length (lines text) + 1)
+ReadsLines text new (Err e) = IsScriptError text e

@@ -5,6 +5,10 @@ use Rattle.std.specs.Prelude.{ℕ}
 abbrev pub input_limit : ℕ
 input_limit = 67108864
 
+-- the most bytes of all boot files and all files of the root export together
+abbrev pub all_files_limit : ℕ
+all_files_limit = 67108864
+
 -- the most commands of a script
 abbrev pub command_limit : ℕ
 command_limit = 16384

@@ -1,8 +1,12 @@
 -- Each line of a script: its text, its rule and what it says. `old` is what the lines before it say.
-use Rattle.std.specs.Prelude.{◌≡◌, ◌≢◌, ℕ, ◌+◌, ◌-◌, ◌<◌, ◌≤◌, ◌^◌, List, [], ◌∷◌, ◌++◌, length, codes, ◌⊎◌}
+use Rattle.std.specs.Prelude.{◌≡◌, ◌≢◌, ℕ, ◌+◌, ◌-◌, ◌<◌, ◌≤◌, ◌^◌, List, [], ◌∷◌, ◌++◌, length, codes, Option, Some, None, IfSome, ◌⊎◌}
 use Rattle.std.specs.List.{All, AllZip}
 use Rattle.sd_link.specs.declared.config.Config.{Config}
 use Rattle.sd_link.specs.declared.config.Machine.{Machine}
+use Rattle.sd_link.specs.declared.config.BootFile.{BootFile}
+use Rattle.sd_link.specs.declared.config.RootItem.{RootItem}
+use Rattle.sd_link.specs.declared.config.RootItem.TheVariants.{File, Symlink}
+use Rattle.sd_link.specs.declared.config.SwapLine.{SwapLine}
 use Rattle.sd_link.specs.declared.events.Fate.{Fate}
 use Rattle.sd_script.specs.declared.script.Command.{Command}
 use Rattle.sd_script.specs.declared.script.Command.TheVariants as commands
@@ -10,14 +14,21 @@ use Rattle.sd_script.specs.declared.draft.Section.{Section}
 use Rattle.sd_script.specs.declared.draft.Section.TheVariants as sections
 use Rattle.sd_script.specs.declared.draft.Draft.{Draft}
 use Rattle.sd_link.specs.Texts.{Text}
-use Rattle.sd_link.specs.Config.{IsName}
+use Rattle.sd_link.specs.Config.{IsName, boot_file_limit, IsPath, IsTarget, AreApart, item_path, item_size}
 use Rattle.sd_script.specs.Texts.{IsNumber, IsMac, IsIp}
-use Rattle.sd_script.specs.Limits.{command_limit, fate_limit}
+use Rattle.sd_script.specs.Runs.{IsRunsWithin}
+use Rattle.sd_script.specs.Limits.{all_files_limit, command_limit, fate_limit}
 
 -- The draft with another configuration, event or command, and the section of the next line.
 
 abbrev pub with_config : Draft → Section → Config → Draft
 with_config draft section config = record draft { section = section; config = config }
+
+abbrev pub with_boot_file : Draft → BootFile → Draft
+with_boot_file draft file = record draft { config = record draft.config { tftp = draft.config.tftp ++ (file ∷ []) }; bytes = draft.bytes + length file.bytes }
+
+abbrev pub with_item : Draft → RootItem → Draft
+with_item draft item = record draft { config = record draft.config { items = draft.config.items ++ (item ∷ []) }; bytes = draft.bytes + item_size item }
 
 abbrev pub with_fate : Draft → Fate → Draft
 with_fate draft fate = record draft { section = sections.Events; fates = draft.fates ++ (fate ∷ []) }
@@ -114,6 +125,105 @@ pub record ClientLine (old : Draft) (args : List Text) (new : Draft) : Type 0 wh
   pub differ : Differ client old.config.server
   pub means : new ≡ with_config old sections.Config (record old.config { client = client; domain = domain; router = router })
 
+-- Configuration lines, in any order.
+
+-- `arch NAME`, at most once
+pub record ArchLine (old : Draft) (args : List Text) (new : Draft) : Type 0 where
+  pub name : Text
+  pub text : args ≡ name ∷ []
+  pub place : old.section ≡ sections.Config
+  pub is_name : IsName name
+  pub first : old.config.arch ≡ []
+  pub means : new ≡ with_config old sections.Config (record old.config { arch = name })
+
+-- the files so far, with so many bytes more, are within the limit
+abbrev pub HasRoom : Draft → ℕ → Type 0
+HasRoom draft more = draft.bytes + more ≤ all_files_limit
+
+-- at most 16 boot files, whose names differ
+abbrev pub MayAddBootFile : List BootFile → Text → Type 0
+MayAddBootFile files name = (length files < 16) × All (λ (other : BootFile). other.name ≢ name) files
+
+-- `tftp NAME BYTES`
+pub record TftpLine (old : Draft) (args : List Text) (new : Draft) : Type 0 where
+  pub file : BootFile
+  pub name : Text
+  pub bytes : Text
+  pub text : args ≡ name ∷ bytes ∷ []
+  pub place : old.section ≡ sections.Config
+  pub is_name : IsName name
+  pub same_name : file.name ≡ name
+  pub runs : IsRunsWithin boot_file_limit bytes file.bytes
+  pub may : MayAddBootFile old.config.tftp name
+  pub room : HasRoom old (length file.bytes)
+  pub means : new ≡ with_boot_file old file
+
+-- one root export, whose path isn't that of the swap file
+abbrev pub MayBeRoot : Config → Text → Type 0
+MayBeRoot config path = (config.root ≡ None) × IfSome config.swap (λ (swap : SwapLine). swap.path ≢ path)
+
+-- `root PATH`
+pub record RootLine (old : Draft) (args : List Text) (new : Draft) : Type 0 where
+  pub path : Text
+  pub text : args ≡ path ∷ []
+  pub place : old.section ≡ sections.Config
+  pub is_path : IsPath path
+  pub may : MayBeRoot old.config path
+  pub means : new ≡ with_config old sections.Config (record old.config { root = Some path })
+
+-- at most 256 files and links; a path is used once, and none is a directory on the way to another
+abbrev pub MayAddItem : List RootItem → Text → Type 0
+MayAddItem items path = (length items < 256) × All (λ (item : RootItem). AreApart (item_path item) path) items
+
+-- `file PATH BYTES`
+pub record FileLine (old : Draft) (args : List Text) (new : Draft) : Type 0 where
+  pub path : Text
+  pub content : List ℕ
+  pub bytes : Text
+  pub text : args ≡ path ∷ bytes ∷ []
+  pub place : old.section ≡ sections.Config
+  pub is_path : IsPath path
+  pub runs : IsRunsWithin 33554432 bytes content
+  pub may : MayAddItem old.config.items path
+  pub room : HasRoom old (length content)
+  pub means : new ≡ with_item old (File path content)
+
+-- `link PATH TEXT`
+pub record LinkLine (old : Draft) (args : List Text) (new : Draft) : Type 0 where
+  pub path : Text
+  pub target : Text
+  pub text : args ≡ path ∷ target ∷ []
+  pub place : old.section ≡ sections.Config
+  pub is_path : IsPath path
+  pub is_target : IsTarget target
+  pub may : MayAddItem old.config.items path
+  pub means : new ≡ with_item old (Symlink path target)
+
+-- `kernel PATH`, at most once
+pub record KernelLine (old : Draft) (args : List Text) (new : Draft) : Type 0 where
+  pub path : Text
+  pub text : args ≡ path ∷ []
+  pub place : old.section ≡ sections.Config
+  pub is_path : IsPath path
+  pub first : old.config.kernel ≡ []
+  pub means : new ≡ with_config old sections.Config (record old.config { kernel = path })
+
+-- one swap file, whose path isn't that of the root export
+abbrev pub MayBeSwap : Config → Text → Type 0
+MayBeSwap config path = (config.swap ≡ None) × IfSome config.root (λ root. root ≢ path)
+
+-- `swap PATH SIZE`
+pub record SwapFileLine (old : Draft) (args : List Text) (new : Draft) : Type 0 where
+  pub path : Text
+  pub size : ℕ
+  pub number : Text
+  pub text : args ≡ path ∷ number ∷ []
+  pub place : old.section ≡ sections.Config
+  pub is_path : IsPath path
+  pub is_size : IsNumber 8192 33554432 number size
+  pub may : MayBeSwap old.config path
+  pub means : new ≡ with_config old sections.Config (record old.config { swap = Some (record { path = path; size = size }) })
+
 -- Event lines.
 
 -- `none`, or 1 to 8 delays from 1 to life - 1
@@ -148,6 +258,11 @@ pub record AddsCommand (old : Draft) (command : Command) (new : Draft) : Type 0 
 pub record AddrLine (old : Draft) (args : List Text) (new : Draft) : Type 0 where
   pub text : args ≡ []
   pub adds : AddsCommand old commands.Addr new
+
+-- `boot`
+pub record BootLine (old : Draft) (args : List Text) (new : Draft) : Type 0 where
+  pub text : args ≡ []
+  pub adds : AddsCommand old commands.Boot new
 
 -- `wait N`
 pub record WaitCommandLine (old : Draft) (args : List Text) (new : Draft) : Type 0 where

@@ -27,8 +27,16 @@ pub enum Word {
     Pages,
     Server,
     Client,
+    Arch,
+    Tftp,
+    Root,
+    File,
+    Link,
+    Kernel,
+    Swap,
     Fate,
     Addr,
+    Boot,
 }
 
 /// What the lines so far say, and which may come next. A value whose line hasn't come is zero or empty.
@@ -36,6 +44,8 @@ pub enum Word {
 pub struct Draft {
     pub section: Section,
     pub config: Config,
+    /// How many bytes boot files and files of the root export have so far.
+    pub bytes: u64,
     pub fates: FateBook,
     pub commands: CommandList,
 }

@@ -1,7 +1,7 @@
 //! The fields of a line, one after another.
 
 ghost use Rattle.std.specs.Prelude.{◌≡◌, []};
-ghost use Rattle.sd_link.specs.Config.{IsName};
+ghost use Rattle.sd_link.specs.Config.{IsName, IsPath, IsTarget};
 ghost use Rattle.sd_script.specs.Texts.{IsNumber, IsMac, IsIp, IsAddr};
 ghost use Rattle.sd_script.specs.Runs.{IsRunsWithin};
 ghost use Rattle.sd_script.specs.Reading.{Reads};
@@ -9,6 +9,7 @@ ghost use Rattle.sd_script.specs.Judging.{Tells, Takes, TakesLast, TakesText};
 
 use crate::error::LineError;
 use crate::parts::Parts;
+use crate::paths::{is_path, is_target};
 use crate::runs::read_runs_within;
 use crate::values::{is_name, read_mac, read_number};
 use sd_outside::{Addr, ByteList, Mac};
@@ -109,6 +110,34 @@ pub fn take_name<'a>(fields: &mut Parts<'a>) -> Result<&'a [u8], LineError>
         return Err(LineError::Outside);
     };
     if is_name(text) {
+        Ok(text)
+    } else {
+        Err(LineError::Outside)
+    }
+}
+
+/// A path as the next field.
+pub fn take_path<'a>(fields: &mut Parts<'a>) -> Result<&'a [u8], LineError>
+    ensures { TakesText IsPath fields.old fields.new result }
+{
+    let Some(text) = fields.next() else {
+        return Err(LineError::Outside);
+    };
+    if is_path(text) {
+        Ok(text)
+    } else {
+        Err(LineError::Outside)
+    }
+}
+
+/// What a link names as the next field.
+pub fn take_target<'a>(fields: &mut Parts<'a>) -> Result<&'a [u8], LineError>
+    ensures { TakesText IsTarget fields.old fields.new result }
+{
+    let Some(text) = fields.next() else {
+        return Err(LineError::Outside);
+    };
+    if is_target(text) {
         Ok(text)
     } else {
         Err(LineError::Outside)

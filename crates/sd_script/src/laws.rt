@@ -6,7 +6,7 @@ ghost use Rattle.sd_outside.specs.declared.packet.Packet.{Packet};
 ghost use Rattle.sd_script.specs.declared.script.Script.{Script};
 ghost use Rattle.sd_link.specs.Runs.{runs_text};
 ghost use Rattle.sd_script.specs.Runs.{IsRuns};
-ghost use Rattle.sd_link.specs.Text.{packet_text};
+ghost use Rattle.sd_link.specs.Printing.{packet_text};
 ghost use Rattle.sd_script.specs.Packets.{IsPacket, IsPacketLine};
 ghost use Rattle.sd_script.specs.Grammar.{IsScript, IsFirstOutside, lines};
 ghost use Rattle.std.specs.List.{concat};

@@ -19,6 +19,7 @@ mod limits;
 mod lines;
 mod packets;
 mod parts;
+mod paths;
 mod read;
 mod record;
 mod runs;

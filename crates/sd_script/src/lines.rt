@@ -6,14 +6,18 @@ ghost use Rattle.sd_script.specs.Judging.{Judges};
 ghost use Rattle.sd_script.specs.Grammar.{spelling, WordLine, IsLine};
 
 mod commands;
+mod config;
 mod events;
+mod files;
 mod heading;
 
 use crate::draft::{Draft, Section, Word};
 use crate::error::LineError;
 use crate::parts::Parts;
-use commands::{addr_line, wait_command_line};
+use commands::{addr_line, boot_line, wait_command_line};
+use config::{arch_line, kernel_line, root_line, swap_line};
 use events::fate_line;
+use files::{file_line, link_line, tftp_line};
 use heading::{client_line, life_line, pages_line, server_line, tries_line, wait_line};
 use std::alloc::Global;
 
@@ -28,8 +32,16 @@ fn word_of(text: &[u8]) -> Option<Word>
         b"pages" => Some(Word::Pages),
         b"server" => Some(Word::Server),
         b"client" => Some(Word::Client),
+        b"arch" => Some(Word::Arch),
+        b"tftp" => Some(Word::Tftp),
+        b"root" => Some(Word::Root),
+        b"file" => Some(Word::File),
+        b"link" => Some(Word::Link),
+        b"kernel" => Some(Word::Kernel),
+        b"swap" => Some(Word::Swap),
         b"fate" => Some(Word::Fate),
         b"addr" => Some(Word::Addr),
+        b"boot" => Some(Word::Boot),
         _ => None,
     }
 }
@@ -60,8 +72,16 @@ fn word_line(
         Word::Pages => pages_line(draft, fields),
         Word::Server => server_line(alloc, draft, fields),
         Word::Client => client_line(alloc, draft, fields),
+        Word::Arch => arch_line(alloc, draft, fields),
+        Word::Tftp => tftp_line(alloc, draft, fields),
+        Word::Root => root_line(alloc, draft, fields),
+        Word::File => file_line(alloc, draft, fields),
+        Word::Link => link_line(alloc, draft, fields),
+        Word::Kernel => kernel_line(alloc, draft, fields),
+        Word::Swap => swap_line(alloc, draft, fields),
         Word::Fate => fate_line(alloc, draft, fields),
         Word::Addr => addr_line(draft, fields),
+        Word::Boot => boot_line(draft, fields),
     }
 }
 

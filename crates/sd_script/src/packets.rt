@@ -4,7 +4,7 @@ ghost use Rattle.std.specs.Prelude.{◌≡◌, ◌++◌, IfOk, IfErr, OnOk, OnEr
 ghost use Rattle.sd_script.specs.Reading.{Reads};
 ghost use Rattle.sd_script.specs.PacketWriting.{head_of_udp};
 ghost use Rattle.sd_script.specs.Writing.{AppendsFront};
-ghost use Rattle.sd_link.specs.Text.{packet_text};
+ghost use Rattle.sd_link.specs.Printing.{packet_text};
 ghost use Rattle.sd_script.specs.Packets.{IsFrameLine, IsUdpLine, IsPacketLine, IsPacketLineError};
 
 use crate::error::{LineError, PacketLineError};

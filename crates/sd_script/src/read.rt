@@ -1,8 +1,9 @@
 //! Reading a script, line by line.
 
 ghost use Rattle.std.specs.Prelude.{◌≡◌, ◌<◌, ◌∷◌, ◌++◌, length, IsTrue, ◌↔◌, IfOk, IfErr};
+ghost use Rattle.sd_script.specs.Judging.{ReadsLines};
 ghost use Rattle.sd_script.specs.Rules.{KeepsRules};
-ghost use Rattle.sd_script.specs.Grammar.{blank, no_machine, script_of, IsWhole, IsScript, IsScriptError, lines, without_feed};
+ghost use Rattle.sd_script.specs.Grammar.{blank, no_machine, kernel_or_usual, script_of, IsWhole, IsScript, IsScriptError, lines, without_feed};
 
 use crate::draft::{Draft, Section};
 use crate::error::{LineError, ScriptError};
@@ -12,7 +13,7 @@ use crate::lines::read_line;
 use crate::parts::place_of;
 use crate::script::{CommandList, Script};
 use sd_link::{Config, Events, Machine};
-use sd_outside::{ByteList, Mac};
+use sd_outside::{ByteList, ListOf, Mac, NoMemory};
 use std::alloc::Global;
 
 fn empty_machine(alloc: Global) -> Machine
@@ -40,23 +41,43 @@ fn blank_draft(alloc: Global) -> Draft
             client: empty_machine(alloc),
             domain: ByteList::empty(alloc),
             router: 0,
+            arch: ByteList::empty(alloc),
+            tftp: ListOf::empty(alloc),
+            root: None,
+            items: ListOf::empty(alloc),
+            kernel: ByteList::empty(alloc),
+            swap: None,
         },
+        bytes: 0,
         fates: FateBook::empty(alloc),
         commands: CommandList::empty(alloc),
     }
 }
 
-/// The script that a draft is.
-fn script_of(draft: Draft) -> Script
-    ensures { result ≡ script_of draft }
+/// The kernel's path, and the usual one where no line names another.
+fn kernel_or_usual(alloc: Global, kernel: ByteList) -> Result<ByteList, NoMemory>
+    ensures { IfOk result (λ path. path ≡ kernel_or_usual kernel) }
 {
-    Script {
-        config: draft.config,
+    if kernel.as_slice().is_empty() {
+        ByteList::from_slice(alloc, b"/vmunix")
+    } else {
+        Ok(kernel)
+    }
+}
+
+/// The script that a draft is.
+fn script_of(alloc: Global, draft: Draft) -> Result<Script, NoMemory>
+    ensures { IfOk result (λ script. script ≡ script_of draft) }
+{
+    let mut config = draft.config;
+    config.kernel = kernel_or_usual(alloc, config.kernel)?;
+    Ok(Script {
+        config,
         events: Events {
             fates: draft.fates.into_list(),
         },
         commands: draft.commands,
-    }
+    })
 }
 
 /// The first line, with its line feed where it has one, and what follows it.
@@ -92,14 +113,11 @@ fn is_whole(section: Section) -> bool
     )
 }
 
-/// The script of a text, or the number of the first line outside the grammar. A text of more than 67,108,864 bytes is no
-/// script: the line with the first byte past them is refused, if none before it is.
-pub fn read_script(alloc: Global, text: &[u8]) -> Result<Script, ScriptError>
-    ensures script { IfOk result (λ script. IsScript text.now script) }
-    ensures rules { IfOk result KeepsRules }
-    ensures refused { IfErr result (IsScriptError text.now) }
+/// Reads all lines of a text into a draft of which nothing is said yet, and gives the number that one more line had.
+fn read_lines(alloc: Global, draft: &mut Draft, text: &[u8]) -> Result<u64, ScriptError>
+    requires { draft.old ≡ blank }
+    ensures { ReadsLines text.now draft.new result }
 {
-    let mut draft = blank_draft(alloc);
     let mut rest = text;
     let mut number: u64 = 0;
     while !rest.is_empty() {
@@ -108,16 +126,30 @@ pub fn read_script(alloc: Global, text: &[u8]) -> Result<Script, ScriptError>
         if text.len() - after.len() > INPUT_LIMIT {
             return Err(ScriptError::Line { number });
         }
-        match read_line(alloc, &mut draft, body_of(line)) {
+        match read_line(alloc, draft, body_of(line)) {
             Ok(()) => {}
             Err(LineError::Outside) => return Err(ScriptError::Line { number }),
             Err(LineError::NoMemory) => return Err(ScriptError::NoMemory),
         }
         rest = after;
     }
-    if is_whole(draft.section) {
-        Ok(script_of(draft))
-    } else {
-        Err(ScriptError::Line { number: number + 1 })
+    Ok(number + 1)
+}
+
+/// The script of a text, or the number of the first line outside the grammar. A text of more than 67,108,864 bytes is no
+/// script: the line with the first byte past them is refused, if none before it is.
+pub fn read_script(alloc: Global, text: &[u8]) -> Result<Script, ScriptError>
+    ensures script { IfOk result (λ script. IsScript text.now script) }
+    ensures rules { IfOk result KeepsRules }
+    ensures refused { IfErr result (IsScriptError text.now) }
+{
+    let mut draft = blank_draft(alloc);
+    let number = read_lines(alloc, &mut draft, text)?;
+    if !is_whole(draft.section) {
+        return Err(ScriptError::Line { number });
+    }
+    match script_of(alloc, draft) {
+        Ok(script) => Ok(script),
+        Err(NoMemory) => Err(ScriptError::NoMemory),
     }
 }

@@ -2,7 +2,7 @@
 
 ghost use Rattle.std.specs.Prelude.{◌≡◌, ◌∷◌, ◌++◌, [], IfOk, OnOk, OnErr};
 ghost use Rattle.std.specs.Fmt.{decimal};
-ghost use Rattle.sd_link.specs.Text.{entry_text};
+ghost use Rattle.sd_link.specs.Printing.{entry_text};
 ghost use Rattle.sd_link.specs.Steps as steps;
 ghost use Rattle.sd_script.specs.PacketWriting.{head_of_sent};
 ghost use Rattle.sd_script.specs.Writing.{AppendsFront};

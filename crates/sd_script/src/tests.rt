@@ -1,5 +1,6 @@
 //! Rows of the formats, and limits at their edges.
 
+mod files;
 mod runs;
 mod scripts;
 mod written;

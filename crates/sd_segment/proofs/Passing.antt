@@ -13,7 +13,7 @@ use Rattle.sd_link.specs.Reply.{out_of}
 use Rattle.sd_link.specs.Steps.{Step, Tick, Send, Serve, Get, Entry, goes_to_server, goes_to_client, whole_record}
 use Rattle.sd_link.specs.Lawful.{served_at, got_at, due_to_server, due_to_client, AllGot, IsFrontOf}
 use Rattle.sd_link.specs.Link.{last_tick, IsBounded, NothingWaits}
-use Rattle.sd_link.specs.Text.{record_text}
+use Rattle.sd_link.specs.Printing.{record_text}
 use Rattle.sd_segment.specs.declared.flown.Origin.TheVariants as origin
 use Rattle.sd_segment.specs.declared.flown.Flown.{Flown}
 use Rattle.sd_segment.specs.declared.flown.Kept.{Kept}

@@ -3,7 +3,7 @@ use Rattle.std.proofs.Common.{◌≡◌, ℕ, ◌+◌, ◌<◌, List, [], ◌∷
 use Rattle.std.proofs.lemmas.Grind.{flat_map-append}
 use Rattle.std.proofs.lemmas.List.{append-nil, take_more}
 use Rattle.sd_link.specs.Steps as steps
-use Rattle.sd_link.specs.Text.{record_text, entry_text}
+use Rattle.sd_link.specs.Printing.{record_text, entry_text}
 use Rattle.sd_segment.specs.declared.flown.Flown.{Flown}
 use Rattle.sd_segment.specs.declared.flown.Kept.{Kept}
 use Rattle.sd_segment.specs.Kept.{sent_entries, entries_of_kept, entries_kept}

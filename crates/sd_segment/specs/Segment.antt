@@ -8,7 +8,7 @@ use Rattle.sd_link.specs.World.{World, start}
 use Rattle.sd_link.specs.Steps.{History, run, record_of, AllAllowed}
 use Rattle.sd_link.specs.Lawful.{AllInTurn, served_at, got_at, due_to_server, due_to_client}
 use Rattle.sd_link.specs.Link.{last_tick}
-use Rattle.sd_link.specs.Text.{record_text}
+use Rattle.sd_link.specs.Printing.{record_text}
 use Rattle.sd_segment.specs.declared.flown.Flown.{Flown}
 use Rattle.sd_segment.specs.declared.flown.Kept.{Kept}
 use Rattle.sd_segment.specs.Flight.{flying_of, AllFated}

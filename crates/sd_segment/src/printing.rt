@@ -1,6 +1,6 @@
 //! The record of a segment as text.
 ghost use Rattle.std.specs.Prelude.{◌≡◌, ◌+◌, ◌<◌, ◌^◌, ◌++◌, length, take, drop, IfOk, OnOk};
-ghost use Rattle.sd_link.specs.Text.{record_text};
+ghost use Rattle.sd_link.specs.Printing.{record_text};
 ghost use Rattle.sd_segment.specs.Kept.{sent_entries, entries_of_kept, entries_kept};
 
 use crate::flown::{Flown, Kept, What};

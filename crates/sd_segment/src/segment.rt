@@ -4,7 +4,7 @@ ghost use Rattle.sd_link.specs.Events.{fates_of, IsEvents};
 ghost use Rattle.sd_link.specs.Lawful.{IsLawful, IsFrontOf};
 ghost use Rattle.sd_link.specs.Link.{last_tick, IsBounded, NothingWaits};
 ghost use Rattle.sd_link.specs.Steps.{world_of, whole_record};
-ghost use Rattle.sd_link.specs.Text.{record_text};
+ghost use Rattle.sd_link.specs.Printing.{record_text};
 ghost use Rattle.sd_segment.specs.Segment.{history_of, text_drained};
 
 mod link;

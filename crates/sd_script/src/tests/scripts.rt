@@ -7,7 +7,12 @@ const SERVER: &[u8] = b"server 080020000001 192.168.1.1 boss";
 const CLIENT: &[u8] = b"client 080020010203 192.168.1.2 sparky example 192.168.1.1";
 
 /// The heading, with another line at the place 1 to 6, and what follows it.
-fn with_line(rt: &HostRuntime, place: u64, line: &[u8], more: &[u8]) -> Result<ByteList, NoMemory> {
+pub fn with_line(
+    rt: &HostRuntime,
+    place: u64,
+    line: &[u8],
+    more: &[u8],
+) -> Result<ByteList, NoMemory> {
     let mut text = ByteList::empty(rt.alloc());
     push_line(&mut text, if place == 1 { line } else { b"life 10" })?;
     push_line(&mut text, if place == 2 { line } else { b"tries 4" })?;
@@ -19,13 +24,13 @@ fn with_line(rt: &HostRuntime, place: u64, line: &[u8], more: &[u8]) -> Result<B
     Ok(text)
 }
 
-fn push_line(text: &mut ByteList, line: &[u8]) -> Result<(), NoMemory> {
+pub fn push_line(text: &mut ByteList, line: &[u8]) -> Result<(), NoMemory> {
     text.push_slice(line)?;
     text.push_slice(b"\n")
 }
 
 /// The number of the refused line, or none where the text is a script.
-fn refused(rt: &HostRuntime, text: &[u8]) -> Result<Option<u64>, NoMemory> {
+pub fn refused(rt: &HostRuntime, text: &[u8]) -> Result<Option<u64>, NoMemory> {
     match read_script(rt.alloc(), text) {
         Ok(_) => Ok(None),
         Err(ScriptError::Line { number }) => Ok(Some(number)),
@@ -35,7 +40,7 @@ fn refused(rt: &HostRuntime, text: &[u8]) -> Result<Option<u64>, NoMemory> {
 
 #[test]
 fn reads_what_the_lines_say(rt: HostRuntime) -> Result<(), Fail> {
-    let more = b"# a comment\n\nfate 29 9 1\nfate 3 none\naddr\n#\nwait 100000";
+    let more = b"# a comment\n\nfate 29 9 1\nfate 3 none\naddr\n#\nwait 100000\nboot";
     let text = with_line(&rt, 0, b"", more)?;
     let Ok(script) = read_script(rt.alloc(), text.as_slice()) else {
         assert!(rt; false, "refused");
@@ -62,7 +67,12 @@ fn reads_what_the_lines_say(rt: HostRuntime) -> Result<(), Fail> {
         }
         _ => assert!(rt; false, "other fates"),
     }
-    let commands = [Command::Addr, Command::Wait { ticks: 100_000 }];
+    let commands = [
+        Command::Addr,
+        Command::Wait { ticks: 100_000 },
+        Command::Boot,
+    ];
+    assert_eq!(rt; script.config.kernel.as_slice(), b"/vmunix".as_slice());
     assert_eq!(rt; script.commands.as_slice(), commands.as_slice());
     Ok(())
 }
@@ -166,7 +176,7 @@ fn judges_lines_of_the_heading(rt: HostRuntime) -> Result<(), Fail> {
 }
 
 /// What follows the heading, with the number of the refused line, or none.
-const AFTER: [(&[u8], Option<u64>); 40] = [
+const AFTER: [(&[u8], Option<u64>); 45] = [
     (b"", None),
     (b"addr", None),
     (b"wait 1\nwait 100000\naddr\n", None),
@@ -199,8 +209,13 @@ const AFTER: [(&[u8], Option<u64>); 40] = [
     (b"wait 01\n", Some(7)),
     (b"wait\n", Some(7)),
     (b"life 10\n", Some(7)),
-    (b"boot\n", Some(7)),
-    (b"tftp A 00\n", Some(7)),
+    (b"boot\naddr\nboot", None),
+    (b"boot \n", Some(7)),
+    (b"boot 1\n", Some(7)),
+    (b"host 192.168.1.9 other\n", Some(7)),
+    (b"params sparky root=boss:/export\n", Some(7)),
+    (b"stranger 1 frame 00\n", Some(7)),
+    (b"out 1 00*8192\n", Some(7)),
     (b"crash 1 1 1 1\n", Some(7)),
     (b"fault send 1\n", Some(7)),
     (b"\n#\x80\r\n\naddr\n# addr \n", None),

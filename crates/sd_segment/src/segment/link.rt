@@ -2,7 +2,7 @@
 ghost use Rattle.std.specs.Prelude.{◌≡◌, ◌⊎◌, ◌≤◌, ◌<◌, IsTrue, OnOk, OnErr, IfErr, Some, None, Ok, Err};
 ghost use Rattle.sd_link.specs.Link.{Moves, Sends, Receives, LinkCause, Counts, last_tick, Drains, IsBounded};
 ghost use Rattle.sd_link.specs.Steps.{whole_record};
-ghost use Rattle.sd_link.specs.Text.{record_text};
+ghost use Rattle.sd_link.specs.Printing.{record_text};
 ghost use Rattle.sd_link.specs.declared.link.LinkError.TheVariants as refused;
 ghost use Rattle.sd_segment.specs.Segment.{history_of, text_drained};
 

@@ -6,7 +6,7 @@ use Rattle.sd_outside.specs.Streams.{Gains}
 use Rattle.sd_link.specs.declared.config.ClientConfig.{ClientConfig}
 use Rattle.sd_link.specs.Config.{IsFor}
 use Rattle.sd_link.specs.Steps.{whole_record}
-use Rattle.sd_link.specs.Text.{record_text}
+use Rattle.sd_link.specs.Printing.{record_text}
 use Rattle.sd_link.specs.Link.{Moves}
 use Rattle.sd_link.proofs.Histories.{moves_then}
 use Rattle.sd_script.specs.declared.script.Command.{Command}

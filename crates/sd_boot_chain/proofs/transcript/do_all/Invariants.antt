@@ -3,7 +3,7 @@ use Rattle.std.specs.Prelude.{IfSome}
 use Rattle.sd_outside.specs.Causes.{Rose}
 use Rattle.sd_link.specs.Config.{IsFor}
 use Rattle.sd_link.specs.Steps.{whole_record}
-use Rattle.sd_link.specs.Text.{record_text}
+use Rattle.sd_link.specs.Printing.{record_text}
 use Rattle.sd_link.specs.Link.{Moves}
 use Rattle.sd_claims.specs.Session.{IsSession}
 use Rattle.sd_boot_chain.specs.Client.{Lasts, most_ticks}

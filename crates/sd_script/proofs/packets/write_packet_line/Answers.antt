@@ -1,6 +1,6 @@
 use Rattle.std.proofs.Common.{◌≡◌, ◌++◌, ◌∙◌, ap, refl, append_assoc}
 use Rattle.std.proofs.lemmas.Result.{on_err_weaker, on_ok_weaker}
-use Rattle.sd_link.specs.Text.{packet_text}
+use Rattle.sd_link.specs.Printing.{packet_text}
 use Rattle.sd_script.specs.Writing.{AppendsFront}
 use Rattle.sd_script.proofs.Exits.{on_err}
 use Rattle.sd_script.proofs.WriteLemmas.{nothing_written}

@@ -1,6 +1,6 @@
 use Rattle.std.proofs.Common.{◌≡◌, ◌∷◌, ◌++◌, [], ◌∙◌, refl}
 use Rattle.std.proofs.lemmas.Result.{on_err_weaker}
-use Rattle.sd_link.specs.Text.{packet_text, entry_text}
+use Rattle.sd_link.specs.Printing.{packet_text, entry_text}
 use Rattle.sd_link.specs.Steps as steps
 use Rattle.sd_script.specs.PacketWriting.{head_of_sent}
 use Rattle.sd_script.specs.Writing.{AppendsFront}

@@ -1,5 +1,5 @@
 use Rattle.std.proofs.Common.{◌≡◌, take}
-use Rattle.sd_link.specs.Text.{record_text}
+use Rattle.sd_link.specs.Printing.{record_text}
 use Rattle.sd_segment.specs.Kept.{entries_kept}
 use Rattle.sd_segment.proofs.printing.lines_of.Given as goal
 

@@ -1,5 +1,5 @@
 use Rattle.std.proofs.Common.{◌≡◌, ◌+◌, ◌++◌, take}
-use Rattle.sd_link.specs.Text.{record_text}
+use Rattle.sd_link.specs.Printing.{record_text}
 use Rattle.sd_segment.specs.Kept.{sent_entries}
 use Rattle.sd_segment.proofs.printing.write_all_sent.Given as goal
 

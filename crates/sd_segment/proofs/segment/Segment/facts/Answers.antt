@@ -1,7 +1,7 @@
 use Rattle.std.proofs.Common.{subst}
 use Rattle.sd_link.specs.Lawful.{IsFrontOf}
 use Rattle.sd_link.specs.Steps.{whole_record}
-use Rattle.sd_link.specs.Text.{record_text}
+use Rattle.sd_link.specs.Printing.{record_text}
 use Rattle.sd_segment.specs.Inside.{view_of}
 use Rattle.sd_segment.specs.Segment.{SegmentView, history_of, text_drained}
 use Rattle.sd_segment.proofs.Passing.{drained_front}

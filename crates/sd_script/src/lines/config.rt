@@ -1,0 +1,106 @@
+ghost use Rattle.std.specs.Prelude.{◌≡◌, ◌≢◌, IsTrue, ◌↔◌, IfSome};
+ghost use Rattle.sd_link.specs.declared.config.SwapLine.{SwapLine};
+ghost use Rattle.sd_script.specs.Judging.{Judges};
+ghost use Rattle.sd_script.specs.Lines.{ArchLine, RootLine, KernelLine, SwapFileLine, MayBeRoot, MayBeSwap};
+
+use crate::draft::{Draft, Section};
+use crate::error::LineError;
+use crate::fields::{take_end, take_name, take_number, take_path};
+use crate::lines::heading::in_section;
+use crate::parts::Parts;
+use crate::values::same_text;
+use sd_link::{Config, SwapLine};
+use sd_outside::ByteList;
+use std::alloc::Global;
+
+/// `arch NAME`
+pub fn arch_line(alloc: Global, draft: &mut Draft, mut fields: Parts<'_>) -> Result<(), LineError>
+    ensures { Judges ArchLine draft.old fields.entry draft.new result }
+{
+    in_section(draft, Section::Config)?;
+    let name = take_name(&mut fields)?;
+    take_end(&mut fields)?;
+    if !draft.config.arch.as_slice().is_empty() {
+        return Err(LineError::Outside);
+    }
+    draft.config.arch = ByteList::from_slice(alloc, name)?;
+    Ok(())
+}
+
+/// `kernel PATH`
+pub fn kernel_line(alloc: Global, draft: &mut Draft, mut fields: Parts<'_>) -> Result<(), LineError>
+    ensures { Judges KernelLine draft.old fields.entry draft.new result }
+{
+    in_section(draft, Section::Config)?;
+    let path = take_path(&mut fields)?;
+    take_end(&mut fields)?;
+    if !draft.config.kernel.as_slice().is_empty() {
+        return Err(LineError::Outside);
+    }
+    draft.config.kernel = ByteList::from_slice(alloc, path)?;
+    Ok(())
+}
+
+/// Whether the root export, where there is one, has another path.
+fn isnt_root(root: &Option<ByteList>, path: &[u8]) -> bool
+    ensures { IsTrue result ↔ IfSome root.now (λ root. root ≢ path.now) }
+{
+    match root {
+        None => true,
+        Some(root) => !same_text(root.as_slice(), path),
+    }
+}
+
+/// Whether the swap file, where there is one, has another path.
+fn isnt_swap(swap: &Option<SwapLine>, path: &[u8]) -> bool
+    ensures { IsTrue result ↔ IfSome swap.now (λ (swap : SwapLine). swap.path ≢ path.now) }
+{
+    match swap {
+        None => true,
+        Some(swap) => !same_text(swap.path.as_slice(), path),
+    }
+}
+
+/// Whether this may be the path of the root export.
+fn may_be_root(config: &Config, path: &[u8]) -> bool
+    ensures { IsTrue result ↔ MayBeRoot config.now path.now }
+{
+    config.root.is_none() && isnt_swap(&config.swap, path)
+}
+
+/// `root PATH`
+pub fn root_line(alloc: Global, draft: &mut Draft, mut fields: Parts<'_>) -> Result<(), LineError>
+    ensures { Judges RootLine draft.old fields.entry draft.new result }
+{
+    in_section(draft, Section::Config)?;
+    let path = take_path(&mut fields)?;
+    take_end(&mut fields)?;
+    if !may_be_root(&draft.config, path) {
+        return Err(LineError::Outside);
+    }
+    draft.config.root = Some(ByteList::from_slice(alloc, path)?);
+    Ok(())
+}
+
+/// Whether this may be the path of the swap file.
+fn may_be_swap(config: &Config, path: &[u8]) -> bool
+    ensures { IsTrue result ↔ MayBeSwap config.now path.now }
+{
+    config.swap.is_none() && isnt_root(&config.root, path)
+}
+
+/// `swap PATH SIZE`
+pub fn swap_line(alloc: Global, draft: &mut Draft, mut fields: Parts<'_>) -> Result<(), LineError>
+    ensures { Judges SwapFileLine draft.old fields.entry draft.new result }
+{
+    in_section(draft, Section::Config)?;
+    let path = take_path(&mut fields)?;
+    let size = take_number(&mut fields, 8192, 33_554_432)?;
+    take_end(&mut fields)?;
+    if !may_be_swap(&draft.config, path) {
+        return Err(LineError::Outside);
+    }
+    let path = ByteList::from_slice(alloc, path)?;
+    draft.config.swap = Some(SwapLine { path, size });
+    Ok(())
+}
