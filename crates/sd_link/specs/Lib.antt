@@ -1,5 +1,4 @@
 pub mod Config
-pub mod Program
 pub mod Events
 pub mod World
 pub mod Reply

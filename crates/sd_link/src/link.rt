@@ -20,10 +20,6 @@ pub enum LinkError {
 pub enum Stage {
     /// Asking for its own address.
     Rarp,
-    /// Fetching its boot program.
-    Tftp,
-    /// Asking for its own name.
-    Whoami,
     /// Letting time pass.
     Wait,
 }

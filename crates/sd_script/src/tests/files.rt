@@ -21,7 +21,7 @@ fn boot_and(rt: &HostRuntime, more: &[u8]) -> Result<ByteList, NoMemory> {
 
 #[test]
 fn reads_what_configuration_lines_say(rt: HostRuntime) -> Result<(), Fail> {
-    let text = boot_and(&rt, b"link /etc/rc ../x\narch sun2\nfile /b -\nboot\n")?;
+    let text = boot_and(&rt, b"link /etc/rc ../x\narch sun2\nfile /b -\naddr\n")?;
     let Ok(script) = read_script(rt.alloc(), text.as_slice()) else {
         assert!(rt; false, "refused");
         return Ok(());
@@ -61,7 +61,7 @@ fn reads_what_configuration_lines_say(rt: HostRuntime) -> Result<(), Fail> {
         }
         None => assert!(rt; false, "no swap file"),
     }
-    assert_eq!(rt; script.commands.as_slice(), [Command::Boot].as_slice());
+    assert_eq!(rt; script.commands.as_slice(), [Command::Addr].as_slice());
     Ok(())
 }
 

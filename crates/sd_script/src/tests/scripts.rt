@@ -40,7 +40,7 @@ pub fn refused(rt: &HostRuntime, text: &[u8]) -> Result<Option<u64>, NoMemory> {
 
 #[test]
 fn reads_what_the_lines_say(rt: HostRuntime) -> Result<(), Fail> {
-    let more = b"# a comment\n\nfate 29 9 1\nfate 3 none\naddr\n#\nwait 100000\nboot";
+    let more = b"# a comment\n\nfate 29 9 1\nfate 3 none\naddr\n#\nwait 100000";
     let text = with_line(&rt, 0, b"", more)?;
     let Ok(script) = read_script(rt.alloc(), text.as_slice()) else {
         assert!(rt; false, "refused");
@@ -67,11 +67,7 @@ fn reads_what_the_lines_say(rt: HostRuntime) -> Result<(), Fail> {
         }
         _ => assert!(rt; false, "other fates"),
     }
-    let commands = [
-        Command::Addr,
-        Command::Wait { ticks: 100_000 },
-        Command::Boot,
-    ];
+    let commands = [Command::Addr, Command::Wait { ticks: 100_000 }];
     assert_eq!(rt; script.config.kernel.as_slice(), b"/vmunix".as_slice());
     assert_eq!(rt; script.commands.as_slice(), commands.as_slice());
     Ok(())
@@ -209,9 +205,7 @@ const AFTER: [(&[u8], Option<u64>); 45] = [
     (b"wait 01\n", Some(7)),
     (b"wait\n", Some(7)),
     (b"life 10\n", Some(7)),
-    (b"boot\naddr\nboot", None),
-    (b"boot \n", Some(7)),
-    (b"boot 1\n", Some(7)),
+    (b"boot\n", Some(7)),
     (b"host 192.168.1.9 other\n", Some(7)),
     (b"params sparky root=boss:/export\n", Some(7)),
     (b"stranger 1 frame 00\n", Some(7)),
