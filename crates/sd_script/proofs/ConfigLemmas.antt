@@ -1,5 +1,5 @@
 -- What configuration lines keep.
-use Rattle.std.proofs.Common.{◌≡◌, ◌≢◌, ℕ, ◌+◌, ◌<◌, ◌≤◌, List, [], ◌∷◌, ◌++◌, Option, Some, None, IfSome, length, refl, sym, ◌∙◌, ◌⊎◌, inl, inr, arith, length-append}
+use Rattle.std.proofs.Common.{◌≡◌, ◌≢◌, ℕ, ◌+◌, ◌≤◌, List, [], ◌∷◌, ◌++◌, Option, Some, None, IfSome, length, refl, sym, ◌⊎◌, inl, inr, arith, length-append}
 use Rattle.std.specs.Prelude.{codes}
 use Rattle.std.specs.List.{AllPairs, sum_by}
 use Rattle.std.proofs.lemmas.List.Elements.{All-nil, All-cons, All-append}
@@ -11,7 +11,7 @@ use Rattle.sd_link.specs.declared.config.SwapLine.{SwapLine}
 use Rattle.sd_link.specs.declared.config.Config.{Config}
 use Rattle.sd_link.specs.Texts.{Text}
 use Rattle.sd_link.specs.Config.{IsName, IsPath, IsComponent, is_visible, AreBootFiles, IsBootFile, AreRootItems, IsRootItem, AreApart, IsSwap, item_path, item_size}
-use Rattle.sd_script.specs.Lines.{MayAddBootFile, MayBeRoot, MayAddItem, MayBeSwap}
+use Rattle.sd_script.specs.Lines.{MayAddBootFile, MayAddItem}
 use Rattle.sd_script.specs.Grammar.{kernel_or_usual}
 
 -- the bytes of all these files

@@ -1,7 +1,5 @@
 -- A configuration line leads to one draft.
-use Rattle.std.proofs.Common.{◌≡◌, ℕ, List, Option, Some, ap, sym, ◌∙◌, subst}
-use Rattle.sd_link.specs.declared.config.BootFile.{BootFile}
-use Rattle.sd_link.specs.declared.config.SwapLine.{SwapLine}
+use Rattle.std.proofs.Common.{◌≡◌, ℕ, List, sym, ◌∙◌, subst}
 use Rattle.sd_link.specs.Texts.{Text}
 use Rattle.sd_link.specs.Config.{boot_file_limit}
 use Rattle.sd_script.specs.declared.draft.Draft.{Draft}

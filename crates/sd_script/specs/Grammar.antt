@@ -1,5 +1,5 @@
 -- Which bytes are a script, and which line is the first outside the grammar.
-use Rattle.std.specs.Prelude.{◌≡◌, ℕ, ◌+◌, ◌<◌, ◌≤◌, ◌==◌, List, [], ◌∷◌, ◌++◌, length, codes, Option, None, ◌⊎◌, if◌then◌else◌}
+use Rattle.std.specs.Prelude.{◌≡◌, ℕ, ◌+◌, ◌<◌, ◌≤◌, ◌==◌, List, [], ◌∷◌, ◌++◌, length, codes, None, ◌⊎◌, if◌then◌else◌}
 use Rattle.std.specs.List.{onto_first, before_first, concat}
 use Rattle.sd_link.specs.declared.config.Machine.{Machine}
 use Rattle.sd_link.specs.declared.config.Config.{Config}

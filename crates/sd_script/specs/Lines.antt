@@ -1,5 +1,5 @@
 -- Each line of a script: its text, its rule and what it says. `old` is what the lines before it say.
-use Rattle.std.specs.Prelude.{◌≡◌, ◌≢◌, ℕ, ◌+◌, ◌-◌, ◌<◌, ◌≤◌, ◌^◌, List, [], ◌∷◌, ◌++◌, length, codes, Option, Some, None, IfSome, ◌⊎◌}
+use Rattle.std.specs.Prelude.{◌≡◌, ◌≢◌, ℕ, ◌+◌, ◌-◌, ◌<◌, ◌≤◌, ◌^◌, List, [], ◌∷◌, ◌++◌, length, codes, Some, None, IfSome, ◌⊎◌}
 use Rattle.std.specs.List.{All, AllZip}
 use Rattle.sd_link.specs.declared.config.Config.{Config}
 use Rattle.sd_link.specs.declared.config.Machine.{Machine}

@@ -37,7 +37,7 @@ fn read_item(alloc: Global, text: &[u8], most: usize) -> Result<RunItem, LineErr
     })
 }
 
-/// Adds the bytes for which an item stands, where at most `most` are there then.
+/// Adds the bytes for which an item stands, where at most `most` are there then. The first pairs aren't copied.
 fn push_item(bytes: &mut Vec<u8>, item: RunItem, most: usize) -> Result<(), LineError>
     requires { length bytes.old.items ≤ most }
     ensures { ReadsOnto most bytes.old.items item bytes.new.items result }
@@ -48,7 +48,11 @@ fn push_item(bytes: &mut Vec<u8>, item: RunItem, most: usize) -> Result<(), Line
             if pairs.as_slice().len() > room {
                 return Err(LineError::Outside);
             }
-            bytes.extend_from_slice(pairs.as_slice())?;
+            if bytes.is_empty() {
+                *bytes = pairs.into_vec();
+            } else {
+                bytes.extend_from_slice(pairs.as_slice())?;
+            }
         }
         RunItem::Repeated { byte, count } => {
             if count > room as u64 {

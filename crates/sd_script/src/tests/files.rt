@@ -1,6 +1,6 @@
 use crate::tests::scripts::{push_line, refused, with_line};
-use crate::{Command, read_script};
-use sd_link::RootItem;
+use crate::{push_number, read_script, write_runs};
+use sd_link::{Config, RootItem};
 use sd_outside::{ByteList, NoMemory};
 use std::test::Fail;
 
@@ -19,49 +19,84 @@ fn boot_and(rt: &HostRuntime, more: &[u8]) -> Result<ByteList, NoMemory> {
     Ok(text)
 }
 
+/// Adds what is kept of a file or a link.
+fn push_item(rt: &HostRuntime, item: &RootItem, text: &mut ByteList) -> Result<(), NoMemory> {
+    let alloc = rt.alloc();
+    match item {
+        RootItem::File { path, bytes } => {
+            text.push_slice(path.as_slice())?;
+            text.push_slice(b" ")?;
+            write_runs(alloc, bytes.as_slice(), text)?;
+        }
+        RootItem::Symlink { path, text: target } => {
+            text.push_slice(path.as_slice())?;
+            text.push_slice(b" to ")?;
+            text.push_slice(target.as_slice())?;
+        }
+    }
+    text.push_slice(b"\n")
+}
+
+/// What is kept of boot files, and of the files and links of the root export.
+fn kept_files(rt: &HostRuntime, config: &Config) -> Result<ByteList, NoMemory> {
+    let mut text = ByteList::empty(rt.alloc());
+    for file in config.tftp.as_slice() {
+        text.push_slice(file.name.as_slice())?;
+        text.push_slice(b" ")?;
+        write_runs(rt.alloc(), file.bytes.as_slice(), &mut text)?;
+        text.push_slice(b"\n")?;
+    }
+    for item in config.items.as_slice() {
+        push_item(rt, item, &mut text)?;
+    }
+    Ok(text)
+}
+
+/// What is kept of the other configuration lines.
+fn kept_names(rt: &HostRuntime, config: &Config) -> Result<ByteList, NoMemory> {
+    let mut text = ByteList::empty(rt.alloc());
+    push_line(&mut text, config.arch.as_slice())?;
+    push_line(&mut text, config.kernel.as_slice())?;
+    if let Some(root) = &config.root {
+        push_line(&mut text, root.as_slice())?;
+    }
+    if let Some(swap) = &config.swap {
+        push_number(rt.alloc(), &mut text, swap.size)?;
+        text.push_slice(b" ")?;
+        push_line(&mut text, swap.path.as_slice())?;
+    }
+    Ok(text)
+}
+
+/// What is kept of a text's configuration lines.
+fn kept(rt: &HostRuntime, text: &[u8]) -> Result<ByteList, NoMemory> {
+    match read_script(rt.alloc(), text) {
+        Ok(script) => {
+            let mut text = kept_names(rt, &script.config)?;
+            text.push_slice(kept_files(rt, &script.config)?.as_slice())?;
+            Ok(text)
+        }
+        Err(_) => ByteList::from_slice(rt.alloc(), b"refused"),
+    }
+}
+
 #[test]
 fn reads_what_configuration_lines_say(rt: HostRuntime) -> Result<(), Fail> {
     let text = boot_and(&rt, b"link /etc/rc ../x\narch sun2\nfile /b -\naddr\n")?;
-    let Ok(script) = read_script(rt.alloc(), text.as_slice()) else {
-        assert!(rt; false, "refused");
-        return Ok(());
-    };
-    let config = &script.config;
-    assert_eq!(rt; config.arch.as_slice(), b"sun2".as_slice());
-    match config.tftp.as_slice() {
-        [file] => {
-            assert_eq!(rt; file.name.as_slice(), b"C0A80102".as_slice());
-            assert_eq!(rt; file.bytes.as_slice(), [0x42; 600].as_slice());
-        }
-        _ => assert!(rt; false, "other boot files"),
-    }
-    match config.items.as_slice() {
-        [
-            RootItem::File { path, bytes },
-            RootItem::Symlink { path: from, text },
-            RootItem::File { path: last, .. },
-        ] => {
-            assert_eq!(rt; path.as_slice(), b"/vmunix".as_slice());
-            assert_eq!(rt; bytes.as_slice(), [0x4b; 8193].as_slice());
-            assert_eq!(rt; from.as_slice(), b"/etc/rc".as_slice());
-            assert_eq!(rt; text.as_slice(), b"../x".as_slice());
-            assert_eq!(rt; last.as_slice(), b"/b".as_slice());
-        }
-        _ => assert!(rt; false, "other items"),
-    }
-    assert_eq!(rt; config.kernel.as_slice(), b"/vmunix".as_slice());
-    match &config.root {
-        Some(root) => assert_eq!(rt; root.as_slice(), b"/export/root/sparky".as_slice()),
-        None => assert!(rt; false, "no root"),
-    }
-    match &config.swap {
-        Some(swap) => {
-            assert_eq!(rt; swap.path.as_slice(), b"/export/swap/sparky".as_slice());
-            assert_eq!(rt; swap.size, 16_384);
-        }
-        None => assert!(rt; false, "no swap file"),
-    }
-    assert_eq!(rt; script.commands.as_slice(), [Command::Addr].as_slice());
+    let wanted = b"sun2
+/vmunix
+/export/root/sparky
+16384 /export/swap/sparky
+C0A80102 42*600
+/vmunix 4b*8193
+/etc/rc to ../x
+/b -
+";
+    let is = kept(&rt, text.as_slice())?;
+    assert_eq!(rt; is.as_slice(), wanted.as_slice());
+    let text = with_line(&rt, 0, b"", b"")?;
+    let is = kept(&rt, text.as_slice())?;
+    assert_eq!(rt; is.as_slice(), b"\n/vmunix\n".as_slice());
     Ok(())
 }
 
@@ -89,7 +124,7 @@ fn judges_lines_after_a_whole_boot(rt: HostRuntime) -> Result<(), Fail> {
 }
 
 /// Configuration lines behind the heading, with the number of the refused line, or none.
-const LINES: [(&[u8], Option<u64>); 56] = [
+const LINES: [(&[u8], Option<u64>); 53] = [
     (b"arch .\n", None),
     (b"arch ..\n", None),
     (b"arch \n", Some(7)),
@@ -104,7 +139,6 @@ const LINES: [(&[u8], Option<u64>); 56] = [
     (b"tftp a 00*1\n", Some(7)),
     (b"tftp a 00 00\n", Some(7)),
     (b"tftp a/b 00\n", Some(7)),
-    (b"tftp a 00*33553919\n", None),
     (b"tftp a 00*33553920\n", Some(7)),
     (b"root /\n", Some(7)),
     (b"root //\n", Some(7)),
@@ -138,20 +172,12 @@ const LINES: [(&[u8], Option<u64>); 56] = [
     (b"file /a 00\nfile /ab 00\nfile /b/a 00\n", None),
     (b"file /a\n", Some(7)),
     (b"file /a 0g\n", Some(7)),
-    (b"file /a -\nfile /b 00*33554432\n", None),
+    (b"file /a -\nfile /b 00\n", None),
     (b"file /b 00*33554433\n", Some(7)),
     (b"link /a \n", Some(7)),
     (b"link /a\n", Some(7)),
     (b"link /a b c\n", Some(7)),
     (b"link /a /b//./..\n", None),
-    (
-        b"tftp a 00*33553919\nfile /a 00*33554432\nfile /b 00*513\nfile /c -\n",
-        None,
-    ),
-    (
-        b"tftp a 00*33553919\nfile /a 00*33554432\nfile /b 00*514\nfile /c -\n",
-        Some(9),
-    ),
 ];
 
 #[test]
@@ -190,5 +216,13 @@ fn keeps_the_limits_on_files(rt: HostRuntime) -> Result<(), Fail> {
     let mut text = with_line(&rt, 0, b"", b"")?;
     push_lines(&mut text, 17, b"tftp ", b" -")?;
     assert_eq!(rt; refused(&rt, text.as_slice())?, Some(23));
+    Ok(())
+}
+
+#[test]
+fn keeps_the_sum_of_all_files(rt: HostRuntime) -> Result<(), Fail> {
+    let most = b"tftp a 00*33553919\nfile /a 00*33554432\nfile /b 00*513\nfile /c -\nfile /d 00\n";
+    let text = with_line(&rt, 0, b"", most)?;
+    assert_eq!(rt; refused(&rt, text.as_slice())?, Some(11));
     Ok(())
 }
