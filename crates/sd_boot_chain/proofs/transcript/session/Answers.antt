@@ -1,11 +1,11 @@
 use Rattle.std.proofs.Common.{◌≡◌, List, [], Option, Result, Ok, Err, sym, subst}
-use Rattle.std.specs.Prelude.{OnErr}
+use Rattle.std.specs.Prelude.{OnOk, OnErr}
 use Rattle.sd_link.specs.declared.config.ClientConfig.{ClientConfig}
 use Rattle.sd_link.specs.Config.{IsFor}
 use Rattle.sd_link.specs.Link.{Moves}
 use Rattle.sd_script.specs.declared.script.Command.{Command}
 use Rattle.sd_link.proofs.Histories.{moves_not}
-use Rattle.sd_claims.specs.Session.{IsCutSession}
+use Rattle.sd_claims.specs.Session.{IsSession, IsCutSession}
 use Rattle.sd_boot_chain.proofs.Stepping.{session_none, session_cut}
 use Rattle.sd_boot_chain.proofs.transcript.session.Goals as goal
 
@@ -20,6 +20,12 @@ returns-in_err-client-clause-cut g c = λ quiet.
     on_err c.from_residual.result
     (moves_not _ (λ a part. IsFor a.config c.args.config → IsCutSession c.args.commands.now before before a part)
     (λ h is_for. session_cut c.args.commands.now 0 before before h [] [] (session_none before h)))
+
+pub returns-clause-done : goal.returns-clause-done
+returns-clause-done g c = λ quiet.
+    subst (λ (k : ClientConfig). OnOk c.do_all.result (Moves (g.L.Link.told c.args.link.now) (g.L.Link.told c.do_all.new.link) (λ a part. IsFor a.config k → IsSession c.args.commands.now (g.K.Sink.written c.args.sink.now) (g.K.Sink.written c.do_all.new.sink) a part)))
+    c.in_ok-client.ensures (subst (λ (l : List Command). OnOk c.do_all.result (Moves (g.L.Link.told c.args.link.now) (g.L.Link.told c.do_all.new.link) (λ a part. IsFor a.config c.in_ok-client.client → IsSession l (g.K.Sink.written c.args.sink.now) (g.K.Sink.written c.do_all.new.sink) a part)))
+    c.as_slice.ensures.all (c.do_all.ensures.done quiet))
 
 pub returns-clause-cut : goal.returns-clause-cut
 returns-clause-cut g c = λ quiet.
