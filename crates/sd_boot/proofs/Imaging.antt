@@ -136,3 +136,17 @@ within_limit Show text out long a = let b = both_refused text [] (text ++ []) re
   where
     never : {files : List (List ℕ)} {error : OpenError} → Ok files ≡ Err error → ⊥
     never same = cc
+
+-- ---- which of the two ends so
+
+pub refused_word : (word : ImageWord) (r : Result Ended Stop) (input : List ℕ) (old new : Option (List ℕ)) → GainsSome old new (Answers word r input) → IfOk r (λ ended. ended ≡ Refused → word ≡ Make)
+refused_word Make (Ok ended) input old new gained = λ is. refl
+refused_word Show (Ok ended) input old new gained = λ is. absurd (subst (λ (e : Ended). EndsSo Show e input gained.0) is gained.2)
+refused_word Make (Err stop) input old new gained = tt
+refused_word Show (Err stop) input old new gained = tt
+
+pub no_image_word : (word : ImageWord) (r : Result Ended Stop) (input : List ℕ) (old new : Option (List ℕ)) → GainsSome old new (Answers word r input) → IfOk r (λ ended. ended ≡ NoImage → word ≡ Show)
+no_image_word Make (Ok ended) input old new gained = λ is. absurd (subst (λ (e : Ended). EndsSo Make e input gained.0) is gained.2)
+no_image_word Show (Ok ended) input old new gained = λ is. refl
+no_image_word Make (Err stop) input old new gained = tt
+no_image_word Show (Err stop) input old new gained = tt

@@ -1,7 +1,7 @@
 -- What a status says of the program that the words call for.
 use Rattle.std.proofs.Common.{◌≡◌, ℕ, ◌+◌, ◌≤◌, List, [], ◌∷◌, Option, Some, None, Result, Ok, Err, refl, sym, ◌∙◌, ap, subst, arith, get_or, inl, inr}
 use Rattle.std.proofs.lemmas.List.{append-nil}
-use Rattle.std.specs.Prelude.{◌⊎◌, ◌==◌, if◌then◌else◌, IsErrOf, IfSome, codes}
+use Rattle.std.specs.Prelude.{◌⊎◌, ◌==◌, if◌then◌else◌, IsErrOf, IfOk, IfSome, codes}
 use Rattle.sd_outside.specs.Causes.{Rose}
 use Rattle.sd_stable_disk.specs.Image.{opens, holds}
 use Rattle.sd_stable_disk.specs.declared.errors.OpenError.{OpenError}
@@ -16,7 +16,7 @@ use Rattle.sd_boot.specs.declared.status.Stop.TheVariants.{SourceFault, SinkFaul
 use Rattle.sd_boot.specs.declared.words.Program.{Program}
 use Rattle.sd_boot.specs.declared.words.Program.TheVariants.{Replay, Show, Pack, ImageMake, ImageShow}
 use Rattle.sd_boot.specs.Status.{status_for}
-use Rattle.sd_boot.specs.Words.{HasWords, IsRow}
+use Rattle.sd_boot.specs.Words.{HasWords, IsImageShow, IsRow}
 use Rattle.sd_boot.specs.Images.{IsImageRefusal}
 use Rattle.sd_boot.specs.Programs.{Performs}
 use Rattle.sd_boot.proofs.Statuses.{Finished, whole_of, refusal_of, no_image_of, front_of, finished}
@@ -139,3 +139,23 @@ show_refused (Ok NoImage) (Some image) f = λ error refused. inl refl
 show_refused (Err SourceFault) (Some image) f = absurd f
 show_refused (Err SinkFault) (Some image) f = absurd f
 show_refused (Err NoMemory) (Some image) f = λ error refused. inr refl
+
+-- ---- status 8 is that of `image show` alone, which has no status 1
+
+pub only_show : (p : Program) (words : List (List ℕ)) (r : Result Ended Stop) → HasWords p words → IfOk r (λ ended. ended ≡ NoImage → p ≡ ImageShow) → (status_for r).0 ≡ 8 → IsImageShow words
+only_show p words (Ok Done) y only is = absurd (omega (arith, is))
+only_show p words (Ok Refused) y only is = absurd (omega (arith, is))
+only_show p words (Ok Usage) y only is = absurd (omega (arith, is))
+only_show p words (Ok NoImage) y only is = subst (λ (q : Program). HasWords q words) (only refl) y
+only_show p words (Err SourceFault) y only is = absurd (omega (arith, is))
+only_show p words (Err SinkFault) y only is = absurd (omega (arith, is))
+only_show p words (Err NoMemory) y only is = absurd (omega (arith, is))
+
+pub not_show : (p : Program) (words : List (List ℕ)) (r : Result Ended Stop) → HasWords p words → IfOk r (λ ended. ended ≡ Refused → p ≡ ImageShow → ⊥) → IsImageShow words → (status_for r).0 ≡ 1 → ⊥
+not_show p words (Ok Done) y never x is = absurd (omega (arith, is))
+not_show p words (Ok Refused) y never x is = never refl (one_program p ImageShow words y x)
+not_show p words (Ok Usage) y never x is = absurd (omega (arith, is))
+not_show p words (Ok NoImage) y never x is = absurd (omega (arith, is))
+not_show p words (Err SourceFault) y never x is = absurd (omega (arith, is))
+not_show p words (Err SinkFault) y never x is = absurd (omega (arith, is))
+not_show p words (Err NoMemory) y never x is = absurd (omega (arith, is))

@@ -31,6 +31,8 @@ fn perform<S: Source, K: Sink>(
     ensures told { Writes (S.left source.old) (K.written sink.old) (K.written sink.new) (Performs program result) }
     ensures whole { IfOk result (λ ended. ended ≡ Ended.Done → IfSome (S.left source.old) (λ all. S.left source.new ≡ Some [])) }
     ensures usage { IfOk result (λ ended. ended ≡ Ended.Usage → ⊥) }
+    ensures refused { IfOk result (λ ended. ended ≡ Ended.Refused → program ≡ Program.ImageShow → ⊥) }
+    ensures no_image { IfOk result (λ ended. ended ≡ Ended.NoImage → program ≡ Program.ImageShow) }
     ensures read { IsErrOf result Stop.SourceFault → Rose (S.faults source.old) (S.faults source.new) }
     ensures write { IsErrOf result Stop.SinkFault → Rose (K.faults sink.old) (K.faults sink.new) }
     ensures nothing { IsErrOf result Stop.SourceFault → K.written sink.new ≡ K.written sink.old }
@@ -105,6 +107,8 @@ pub fn run<S: Source, K: Sink>(
     ensures known { IsRow words.now → result.0 ≡ 2 → ⊥ }
     // When each status comes.
     ensures statuses { (result.0 ≤ 5) ⊎ (result.0 ≡ 8) }
+    ensures only_show { result.0 ≡ 8 → IsImageShow words.now }
+    ensures not_show { IsImageShow words.now → result.0 ≡ 1 → ⊥ }
     ensures source { result.0 ≡ 3 → Rose (S.faults source.old) (S.faults source.new) }
     ensures sink { result.0 ≡ 4 → Rose (K.faults sink.old) (K.faults sink.new) }
     ensures calm_source { result.0 ≤ 2 → S.faults source.new ≡ S.faults source.old }

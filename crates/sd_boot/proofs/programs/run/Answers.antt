@@ -6,7 +6,7 @@ use Rattle.sd_script.specs.declared.script.Script.{Script}
 use Rattle.sd_script.specs.Grammar.{IsScript}
 use Rattle.sd_boot.specs.declared.status.Status.{Status}
 use Rattle.sd_boot.specs.declared.words.Program.TheVariants.{Replay, Show, Pack, ImageMake, ImageShow}
-use Rattle.sd_boot.proofs.Performing.{done_by, refused_by, no_image_by, cut_by, finished_by, replay_done, make_done, show_done, show_refused, no_row}
+use Rattle.sd_boot.proofs.Performing.{done_by, refused_by, no_image_by, cut_by, finished_by, replay_done, make_done, show_done, show_refused, only_show, not_show, no_row}
 use Rattle.sd_boot.proofs.programs.run.Goals as goal
 
 pub returns-in-Some-clause-transcript : goal.returns-in-Some-clause-transcript
@@ -145,3 +145,11 @@ returns-in-Some-clause-image_refused g c = λ words calm_source calm_sink.
     (finished_by ImageShow c.in-Some.program c.args.words.now c.perform.result (g.S.Source.left c.args.source.now) (g.K.Sink.written c.args.sink.now) (g.K.Sink.written c.perform.new.sink) words c.in-Some.ensures c.perform.ensures.told
     (g.S.Source.faults c.args.source.now) (g.S.Source.faults c.perform.new.source) (g.K.Sink.faults c.args.sink.now) (g.K.Sink.faults c.perform.new.sink)
     c.perform.ensures.read c.perform.ensures.write calm_source calm_sink))
+
+pub returns-in-Some-clause-only_show : goal.returns-in-Some-clause-only_show
+returns-in-Some-clause-only_show g c = λ status.
+    only_show c.in-Some.program c.args.words.now c.perform.result c.in-Some.ensures c.perform.ensures.no_image (ap (λ (s : Status). s.0) (sym c.status_of.ensures) ∙ status)
+
+pub returns-in-Some-clause-not_show : goal.returns-in-Some-clause-not_show
+returns-in-Some-clause-not_show g c = λ words status.
+    not_show c.in-Some.program c.args.words.now c.perform.result c.in-Some.ensures c.perform.ensures.refused words (ap (λ (s : Status). s.0) (sym c.status_of.ensures) ∙ status)
