@@ -9,3 +9,7 @@ pub mod Replaying
 pub mod Statuses
 pub mod Translating
 pub mod Turning
+pub mod Carrying
+pub mod HeldFiles
+pub mod Imaging
+pub mod LongImages

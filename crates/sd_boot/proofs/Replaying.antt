@@ -10,7 +10,7 @@ use Rattle.sd_claims.specs.Headline.{Plays, PlaysFront, IsTranscript, IsRefusal,
 use Rattle.sd_boot_chain.specs.Writing.{GainsFront}
 use Rattle.sd_boot_chain.proofs.Gaining.{gains_nothing}
 use Rattle.sd_boot.specs.declared.status.Ended.{Ended}
-use Rattle.sd_boot.specs.declared.status.Ended.TheVariants.{Done, Refused, Usage}
+use Rattle.sd_boot.specs.declared.status.Ended.TheVariants.{Done, Refused, Usage, NoImage}
 use Rattle.sd_boot.specs.declared.status.Stop.{Stop}
 use Rattle.sd_boot.specs.declared.status.Stop.TheVariants.{SourceFault, SinkFault, NoMemory}
 use Rattle.sd_boot.specs.Input.{IsRead}
@@ -46,7 +46,7 @@ played_text text script old new (Err NoMemory) spelled ok err is never = (err.0,
 
 -- ---- from what was read to what the source told
 
-refusal_alike : (text all out : List ℕ) → IsFrontOf text all → input_limit < length text → IsRefusal text out → IsRefusal all out
+pub refusal_alike : (text all out : List ℕ) → IsFrontOf text all → input_limit < length text → IsRefusal text out → IsRefusal all out
 refusal_alike text all out front long r = record { line = r.line; first = refused_alike text all r.line long front r.first; whole = r.whole }
 
 front_alike : (text all out : List ℕ) → IsFrontOf text all → input_limit < length text → IsFront text out → IsFront all out
@@ -58,6 +58,7 @@ alike : (r : Result Ended Stop) (text all out : List ℕ) → IsFrontOf text all
 alike (Ok Done) text all out front long r = absurd (no_script text r.script long r.spelled)
 alike (Ok Refused) text all out front long r = refusal_alike text all out front long r
 alike (Ok Usage) text all out front long r = r
+alike (Ok NoImage) text all out front long r = r
 alike (Err SourceFault) text all out front long r = r
 alike (Err SinkFault) text all out front long r = front_alike text all out front long r
 alike (Err NoMemory) text all out front long r = front_alike text all out front long r

@@ -12,7 +12,7 @@ use Rattle.sd_boot_chain.specs.Writing.{GainsFront}
 use Rattle.sd_boot_chain.proofs.Gaining.{gains_nothing}
 use Rattle.sd_boot.specs.declared.packet_texts.Direction.{Direction}
 use Rattle.sd_boot.specs.declared.status.Ended.{Ended}
-use Rattle.sd_boot.specs.declared.status.Ended.TheVariants.{Done, Refused, Usage}
+use Rattle.sd_boot.specs.declared.status.Ended.TheVariants.{Done, Refused, Usage, NoImage}
 use Rattle.sd_boot.specs.declared.status.Stop.{Stop}
 use Rattle.sd_boot.specs.declared.status.Stop.TheVariants.{SourceFault, SinkFault, NoMemory}
 use Rattle.sd_boot.specs.Input.{IsRead}
@@ -30,6 +30,7 @@ full : (d : Direction) (text out : Text) (ended : Ended) → Translates d (Ok en
 full d text out Done t = inl t
 full d text out Refused t = inr t
 full d text out Usage t = absurd t
+full d text out NoImage t = absurd t
 
 -- the sink failed on the way
 pub not_written : (d : Direction) (text out : Text) (ended : Ended) (old new : Option (List ℕ)) (stop : Stop) → Translates d (Ok ended) text out → GainsFront old new out
@@ -89,6 +90,7 @@ alike : (d : Direction) (r : Result Ended Stop) (text all out : Text) → IsFron
 alike d (Ok Done) text all out front long t = absurd (omega (arith, long, t.within))
 alike d (Ok Refused) text all out front long t = refusal_alike d text all out long front t
 alike d (Ok Usage) text all out front long t = t
+alike d (Ok NoImage) text all out front long t = t
 alike d (Err SourceFault) text all out front long t = t
 alike d (Err SinkFault) text all out front long t = front_alike d text all out front long t
 alike d (Err NoMemory) text all out front long t = front_alike d text all out front long t

@@ -1,3 +1,4 @@
+pub mod Images
 pub mod Input
 pub mod PacketTexts
 pub mod Play

@@ -17,7 +17,7 @@ use Rattle.sd_show.specs.Refused.{word_text, not_a_line, HasNoText}
 use Rattle.sd_boot.specs.declared.packet_texts.Direction.{Direction}
 use Rattle.sd_boot.specs.declared.packet_texts.Direction.TheVariants.{Show, Pack}
 use Rattle.sd_boot.specs.declared.status.Ended.{Ended}
-use Rattle.sd_boot.specs.declared.status.Ended.TheVariants.{Done, Refused, Usage}
+use Rattle.sd_boot.specs.declared.status.Ended.TheVariants.{Done, Refused, Usage, NoImage}
 use Rattle.sd_boot.specs.declared.status.Stop.{Stop}
 use Rattle.sd_boot.specs.declared.status.Stop.TheVariants.{SourceFault, SinkFault, NoMemory}
 
@@ -99,6 +99,7 @@ abbrev pub Translates : Direction → Result Ended Stop → Text → Text → Ty
 Translates d (Ok Done) input out = IsTranslated d input out
 Translates d (Ok Refused) input out = IsTextRefusal d input out
 Translates d (Ok Usage) input out = ⊥
+Translates d (Ok NoImage) input out = ⊥
 Translates d (Err SourceFault) input out = out ≡ []
 Translates d (Err SinkFault) input out = IsTextFront d input out
 Translates d (Err NoMemory) input out = IsTextFront d input out

@@ -2,7 +2,7 @@
 use Rattle.std.specs.Prelude.{◌≡◌, ℕ, List, [], Result, Ok, Err}
 use Rattle.sd_claims.specs.Headline.{IsTranscript, IsRefusal, IsFront}
 use Rattle.sd_boot.specs.declared.status.Ended.{Ended}
-use Rattle.sd_boot.specs.declared.status.Ended.TheVariants.{Done, Refused, Usage}
+use Rattle.sd_boot.specs.declared.status.Ended.TheVariants.{Done, Refused, Usage, NoImage}
 use Rattle.sd_boot.specs.declared.status.Stop.{Stop}
 use Rattle.sd_boot.specs.declared.status.Stop.TheVariants.{SourceFault, SinkFault, NoMemory}
 
@@ -10,6 +10,7 @@ abbrev pub Replays : Result Ended Stop → List ℕ → List ℕ → Type 0
 Replays (Ok Done) text out = IsTranscript text out
 Replays (Ok Refused) text out = IsRefusal text out
 Replays (Ok Usage) text out = ⊥
+Replays (Ok NoImage) text out = ⊥
 Replays (Err SourceFault) text out = out ≡ []
 Replays (Err SinkFault) text out = IsFront text out
 Replays (Err NoMemory) text out = IsFront text out

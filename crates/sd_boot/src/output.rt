@@ -29,7 +29,7 @@ pub(crate) fn write<K: Sink>(sink: &mut K, bytes: &[u8]) -> Result<(), Stop>
 }
 
 /// The line that names the first line outside the grammar.
-fn refusal_line(alloc: Global, number: u64) -> Result<ByteList, NoMemory>
+pub(crate) fn refusal_line(alloc: Global, number: u64) -> Result<ByteList, NoMemory>
     ensures { IfOk result (λ line. line ≡ refusal_line number) }
 {
     let mut line = ByteList::from_slice(alloc, b"refused line ")?;

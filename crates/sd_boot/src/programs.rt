@@ -1,14 +1,18 @@
 //! The programs, by their words.
-ghost use Rattle.std.specs.Prelude.{◌≡◌, ◌⊎◌, ◌≤◌, OnOk, IfOk, IfSome, IsErrOf, Some, []};
+ghost use Rattle.std.specs.Prelude.{◌≡◌, ◌⊎◌, ◌≤◌, ℕ, List, OnOk, IfOk, IfSome, IsErrOf, Some, Err, []};
 ghost use Rattle.sd_outside.specs.Causes.{Rose};
 ghost use Rattle.sd_outside.specs.Streams.{Gains};
+ghost use Rattle.sd_stable_disk.specs.Image.{opens, holds};
+ghost use Rattle.sd_stable_disk.specs.declared.errors.OpenError.{OpenError};
 ghost use Rattle.sd_script.specs.declared.script.Script.{Script};
 ghost use Rattle.sd_script.specs.Grammar.{IsScript};
 ghost use Rattle.sd_claims.specs.Headline.{IsTranscript, IsRefusal, IsFront, Writes};
 ghost use Rattle.sd_boot.specs.PacketTexts.{IsShown, IsShowRefusal, IsShowFront, IsPacked, IsPackRefusal, IsPackFront};
+ghost use Rattle.sd_boot.specs.Images.{IsImageOf, IsImageFront, IsShownImage, IsImageRefusal, IsShownFront};
 ghost use Rattle.sd_boot.specs.Programs.{Performs};
-ghost use Rattle.sd_boot.specs.Words.{IsReplay, IsShow, IsPack, IsRow, usage_line};
+ghost use Rattle.sd_boot.specs.Words.{IsReplay, IsShow, IsPack, IsImageMake, IsImageShow, IsRow, usage_line};
 
+use crate::images::{ImageWord, images};
 use crate::output::usage;
 use crate::packet_texts::{Direction, translate};
 use crate::replay::replay;
@@ -27,6 +31,8 @@ fn perform<S: Source, K: Sink>(
     ensures told { Writes (S.left source.old) (K.written sink.old) (K.written sink.new) (Performs program result) }
     ensures whole { IfOk result (λ ended. ended ≡ Ended.Done → IfSome (S.left source.old) (λ all. S.left source.new ≡ Some [])) }
     ensures usage { IfOk result (λ ended. ended ≡ Ended.Usage → ⊥) }
+    ensures refused { IfOk result (λ ended. ended ≡ Ended.Refused → program ≡ Program.ImageShow → ⊥) }
+    ensures no_image { IfOk result (λ ended. ended ≡ Ended.NoImage → program ≡ Program.ImageShow) }
     ensures read { IsErrOf result Stop.SourceFault → Rose (S.faults source.old) (S.faults source.new) }
     ensures write { IsErrOf result Stop.SinkFault → Rose (K.faults sink.old) (K.faults sink.new) }
     ensures nothing { IsErrOf result Stop.SourceFault → K.written sink.new ≡ K.written sink.old }
@@ -37,13 +43,15 @@ fn perform<S: Source, K: Sink>(
         Program::Replay => replay(alloc, source, sink),
         Program::Show => translate(alloc, Direction::Show, source, sink),
         Program::Pack => translate(alloc, Direction::Pack, source, sink),
+        Program::ImageMake => images(alloc, ImageWord::Make, source, sink),
+        Program::ImageShow => images(alloc, ImageWord::Show, source, sink),
     }
 }
 
 /// The program: from its words and its input to its output and its status.
 ///
 /// 0: all was done. 1: the input was refused. 2: the words are in no row. 3: the source failed. 4: the sink failed.
-/// 5: want of memory.
+/// 5: want of memory. 8: `image show` was given no image that opens.
 pub fn run<S: Source, K: Sink>(
     alloc: Global,
     words: &[Text],
@@ -76,6 +84,21 @@ pub fn run<S: Source, K: Sink>(
         Writes (S.left source.old) (K.written sink.old) (K.written sink.new) IsPackRefusal }
     ensures pack_front { IsPack words.now → 4 ≤ result.0 →
         Writes (S.left source.old) (K.written sink.old) (K.written sink.new) IsPackFront }
+    // `image make`: the input spells a script, and the output is the image of its swap file, or of no file.
+    ensures image { IsImageMake words.now → result.0 ≡ 0 →
+        Writes (S.left source.old) (K.written sink.old) (K.written sink.new) IsImageOf }
+    ensures image_unmade { IsImageMake words.now → result.0 ≡ 1 →
+        Writes (S.left source.old) (K.written sink.old) (K.written sink.new) IsRefusal }
+    ensures image_front { IsImageMake words.now → 4 ≤ result.0 →
+        Writes (S.left source.old) (K.written sink.old) (K.written sink.new) IsImageFront }
+    // `image show`: the output is the text of the files that the image holds.
+    ensures shown_image { IsImageShow words.now → result.0 ≡ 0 →
+        Writes (S.left source.old) (K.written sink.old) (K.written sink.new) IsShownImage }
+    // The image is refused: the output is the line that says why.
+    ensures image_refusal { IsImageShow words.now → result.0 ≡ 8 →
+        Writes (S.left source.old) (K.written sink.old) (K.written sink.new) IsImageRefusal }
+    ensures shown_image_front { IsImageShow words.now → 4 ≤ result.0 →
+        Writes (S.left source.old) (K.written sink.old) (K.written sink.new) IsShownFront }
     // Cut short by the source: nothing was written.
     ensures nothing { result.0 ≡ 3 → K.written sink.new ≡ K.written sink.old }
     // The usage line stands exactly where the words are in no row, unless the sink failed.
@@ -83,14 +106,25 @@ pub fn run<S: Source, K: Sink>(
     ensures unknown { (IsRow words.now → ⊥) → (result.0 ≡ 2) ⊎ (result.0 ≡ 4) }
     ensures known { IsRow words.now → result.0 ≡ 2 → ⊥ }
     // When each status comes.
-    ensures statuses { result.0 ≤ 5 }
+    ensures statuses { (result.0 ≤ 5) ⊎ (result.0 ≡ 8) }
+    ensures only_show { result.0 ≡ 8 → IsImageShow words.now }
+    ensures not_show { IsImageShow words.now → result.0 ≡ 1 → ⊥ }
     ensures source { result.0 ≡ 3 → Rose (S.faults source.old) (S.faults source.new) }
     ensures sink { result.0 ≡ 4 → Rose (K.faults sink.old) (K.faults sink.new) }
     ensures calm_source { result.0 ≤ 2 → S.faults source.new ≡ S.faults source.old }
     ensures calm_sink { result.0 ≤ 2 → K.faults sink.new ≡ K.faults sink.old }
+    ensures refused_source { result.0 ≡ 8 → S.faults source.new ≡ S.faults source.old }
+    ensures refused_sink { result.0 ≡ 8 → K.faults sink.new ≡ K.faults sink.old }
     // Where neither the source nor the sink fails, a script is played to its end, unless memory is wanting.
     ensures complete { IsReplay words.now → (Rose (S.faults source.old) (S.faults source.new) → ⊥) → (Rose (K.faults sink.old) (K.faults sink.new) → ⊥) →
         IfSome (S.left source.old) (λ text. (script : Script) → IsScript text script → (result.0 ≡ 0) ⊎ (result.0 ≡ 5)) }
+    // The same for the image of a script and the files of an image; and an image that is refused answers so.
+    ensures image_complete { IsImageMake words.now → (Rose (S.faults source.old) (S.faults source.new) → ⊥) → (Rose (K.faults sink.old) (K.faults sink.new) → ⊥) →
+        IfSome (S.left source.old) (λ text. (script : Script) → IsScript text script → (result.0 ≡ 0) ⊎ (result.0 ≡ 5)) }
+    ensures shown_image_complete { IsImageShow words.now → (Rose (S.faults source.old) (S.faults source.new) → ⊥) → (Rose (K.faults sink.old) (K.faults sink.new) → ⊥) →
+        IfSome (S.left source.old) (λ image. (files : List (List ℕ)) → holds image files → (result.0 ≡ 0) ⊎ (result.0 ≡ 5)) }
+    ensures image_refused { IsImageShow words.now → (Rose (S.faults source.old) (S.faults source.new) → ⊥) → (Rose (K.faults sink.old) (K.faults sink.new) → ⊥) →
+        IfSome (S.left source.old) (λ image. (error : OpenError) → opens image ≡ Err error → (result.0 ≡ 8) ⊎ (result.0 ≡ 5)) }
     ensures whole { result.0 ≡ 0 → IfSome (S.left source.old) (λ all. S.left source.new ≡ Some []) }
 {
     match program_of(words) {

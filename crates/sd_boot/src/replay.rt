@@ -36,6 +36,7 @@ pub(crate) fn replay<S: Source, K: Sink>(
     ensures told { Writes (S.left source.old) (K.written sink.old) (K.written sink.new) (Replays result) }
     ensures whole { IfOk result (λ ended. ended ≡ Ended.Done → IfSome (S.left source.old) (λ all. S.left source.new ≡ Some [])) }
     ensures usage { IfOk result (λ ended. ended ≡ Ended.Usage → ⊥) }
+    ensures no_image { IfOk result (λ ended. ended ≡ Ended.NoImage → ⊥) }
     ensures read { IsErrOf result Stop.SourceFault → Rose (S.faults source.old) (S.faults source.new) }
     ensures write { IsErrOf result Stop.SinkFault → Rose (K.faults sink.old) (K.faults sink.new) }
     ensures nothing { IsErrOf result Stop.SourceFault → K.written sink.new ≡ K.written sink.old }

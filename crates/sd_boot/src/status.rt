@@ -4,7 +4,7 @@ ghost use Rattle.sd_boot.specs.Status.{status_for};
 
 use sd_outside::NoMemory;
 
-/// The exit status of a program: 0 to 5.
+/// The exit status of a program: 0 to 5, or 8.
 #[derive(Clone, Copy, Debug, PartialEq, Eq)]
 pub struct Status(pub u8);
 
@@ -17,6 +17,8 @@ pub(crate) enum Ended {
     Refused,
     /// The words are in no row.
     Usage,
+    /// The input is no image that can be opened.
+    NoImage,
 }
 
 /// Why a run was cut short.
@@ -49,6 +51,7 @@ pub(crate) fn status_of(ended: Result<Ended, Stop>) -> Status
         Ok(Ended::Done) => Status(0),
         Ok(Ended::Refused) => Status(1),
         Ok(Ended::Usage) => Status(2),
+        Ok(Ended::NoImage) => Status(8),
         Err(Stop::SourceFault) => Status(3),
         Err(Stop::SinkFault) => Status(4),
         Err(Stop::NoMemory) => Status(5),

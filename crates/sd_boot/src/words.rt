@@ -1,5 +1,5 @@
 //! The words of the command line.
-ghost use Rattle.std.specs.Prelude.{◌≡◌, ◌↔◌, IsTrue, IfOk, MatchOption};
+ghost use Rattle.std.specs.Prelude.{◌≡◌, ◌↔◌, IsTrue, IfOk, MatchOption, length};
 ghost use Rattle.sd_boot.specs.Words.{HasWords};
 
 use sd_outside::{ByteList, NoMemory};
@@ -44,12 +44,34 @@ pub(crate) enum Program {
     Replay,
     Show,
     Pack,
+    ImageMake,
+    ImageShow,
+}
+
+/// The program of two words, if there is one.
+fn image_program(words: &[Text]) -> Option<Program>
+    requires { length words.now ≡ 2 }
+    ensures { MatchOption result ((program : Program) → HasWords program words.now → ⊥) (λ program. HasWords program words.now) }
+{
+    if !words[0].is(b"image") {
+        return None;
+    }
+    if words[1].is(b"make") {
+        Some(Program::ImageMake)
+    } else if words[1].is(b"show") {
+        Some(Program::ImageShow)
+    } else {
+        None
+    }
 }
 
 /// The program with these words, if there is one.
 pub(crate) fn program_of(words: &[Text]) -> Option<Program>
     ensures { MatchOption result ((program : Program) → HasWords program words.now → ⊥) (λ program. HasWords program words.now) }
 {
+    if words.len() == 2 {
+        return image_program(words);
+    }
     if words.len() != 1 {
         return None;
     }
