@@ -69,7 +69,12 @@ fn damage_is_refused_where_it_stands(rt: HostRuntime) -> Result<(), Fail> {
     Ok(())
 }
 
-/// Files of 8,192 and 16,384 bytes on a disk: the first has zeros, and the second holds these bytes.
+/// The image of two files.
+fn two_files(alloc: Global) -> Result<ByteList, NoMemory> {
+    image_of(alloc, &[8192, 16384])
+}
+
+/// Of two files the first has zeros, and the second holds these bytes.
 fn holds<D: Disk>(rt: &impl Abort, store: &mut Store<D>, second: &[[u8; 8192]; 2]) -> bool {
     let mut first = [1; 8192];
     let mut low = [1; 8192];
@@ -139,7 +144,7 @@ fn written(rt: &impl Abort, len: usize) -> [[u8; 8192]; 2] {
 
 /// Each stop of the write, each outcome, each stop of the opening, each outcome.
 fn all_stops(rt: &impl Abort, alloc: Global, len: usize) -> Result<(), Fail> {
-    let image = image_of(alloc, &[8192, 16384])?;
+    let image = two_files(alloc)?;
     let before = [[0; 8192]; 2];
     let after = written(rt, len);
     for case in 0..864_u32 {
@@ -182,7 +187,7 @@ fn stops_leave_two_half_blocks_or_none(rt: HostRuntime) -> Result<(), Fail> {
 #[test]
 fn a_fault_takes_the_store_down_until_it_recovers(rt: HostRuntime) -> Result<(), Fail> {
     let alloc = rt.alloc();
-    let image = image_of(alloc, &[8192, 16384])?;
+    let image = two_files(alloc)?;
     let before = [[0; 8192]; 2];
     let after = written(&rt, 8192);
     for fault in 1..9_u64 {

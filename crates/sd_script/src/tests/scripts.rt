@@ -172,7 +172,7 @@ fn judges_lines_of_the_heading(rt: HostRuntime) -> Result<(), Fail> {
 }
 
 /// What follows the heading, with the number of the refused line, or none.
-const AFTER: [(&[u8], Option<u64>); 45] = [
+const AFTER: [(&[u8], Option<u64>); 43] = [
     (b"", None),
     (b"addr", None),
     (b"wait 1\nwait 100000\naddr\n", None),
