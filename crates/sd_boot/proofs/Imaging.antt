@@ -1,13 +1,10 @@
 -- What `image make` and `image show` write, by how each of their parts ended.
-use Rattle.std.proofs.Common.{◌≡◌, ℕ, zero, suc, ◌<◌, ◌≤◌, List, [], ◌∷◌, ◌++◌, length, get_or, map, Option, Some, None, Result, Ok, Err, refl, sym, ◌∙◌, ap, subst, arith, inl, inr}
-use Rattle.std.specs.Prelude.{◌⊎◌, ◌≢◌, IfOk, IfErr, IfSome, IsOk, IsErrOf}
+use Rattle.std.proofs.Common.{◌≡◌, ℕ, zero, suc, ◌<◌, ◌≤◌, List, [], ◌∷◌, ◌++◌, length, get_or, Option, Some, Result, Ok, Err, refl, sym, ◌∙◌, ap, subst, arith, inl, inr}
+use Rattle.std.specs.Prelude.{IfOk, IfSome, IsOk, IsErrOf}
 use Rattle.std.specs.Result.{result_ok}
-use Rattle.sd_link.specs.Config.{IsSwap}
 use Rattle.sd_link.specs.declared.config.SwapLine.{SwapLine}
 use Rattle.sd_link.specs.Lawful.{IsFrontOf}
 use Rattle.sd_script.specs.Limits.{input_limit}
-use Rattle.sd_claims.specs.Headline.{IsRefusal}
-use Rattle.sd_outside.specs.Streams.{Gains}
 use Rattle.sd_boot_chain.specs.Writing.{GainsFront}
 use Rattle.sd_boot_chain.proofs.Gaining.{gains_nothing}
 use Rattle.sd_stable_disk.specs.Image.{opens, held, holds, rounded, total, new_image, zero_files, AreSizes}
@@ -20,7 +17,7 @@ use Rattle.sd_boot.specs.declared.status.Ended.TheVariants.{Done, Refused, Usage
 use Rattle.sd_boot.specs.declared.status.Stop.{Stop}
 use Rattle.sd_boot.specs.declared.status.Stop.TheVariants.{SourceFault, SinkFault, NoMemory}
 use Rattle.sd_boot.specs.Play.{GainsSome}
-use Rattle.sd_boot.specs.Images.{IsImageOf, IsShownImage, IsImageRefusal, IsAnswer, IsAnswerFront, Answers, EndsSo, IsNewImage, swap_sizes, IsRefusalLine, HasSizes, files_text}
+use Rattle.sd_boot.specs.Images.{IsShownImage, IsImageRefusal, IsAnswer, IsAnswerFront, Answers, EndsSo, IsNewImage, swap_sizes, IsRefusalLine, files_text}
 use Rattle.sd_boot.proofs.Cutting.{no_script}
 use Rattle.sd_boot.proofs.Replaying.{refusal_alike}
 use Rattle.sd_boot.proofs.LongImages.{BothRefused, both_refused}

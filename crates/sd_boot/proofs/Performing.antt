@@ -1,7 +1,7 @@
 -- What a status says of the program that the words call for.
-use Rattle.std.proofs.Common.{◌≡◌, ℕ, ◌+◌, ◌≤◌, List, [], ◌∷◌, Option, Some, None, Result, Ok, Err, refl, sym, ◌∙◌, ap, subst, arith, get_or, inl, inr}
+use Rattle.std.proofs.Common.{◌≡◌, ℕ, ◌+◌, ◌≤◌, List, [], Option, Some, None, Result, Ok, Err, refl, sym, ◌∙◌, ap, subst, arith, get_or, inl, inr}
 use Rattle.std.proofs.lemmas.List.{append-nil}
-use Rattle.std.specs.Prelude.{◌⊎◌, ◌==◌, if◌then◌else◌, IsErrOf, IfOk, IfSome, codes}
+use Rattle.std.specs.Prelude.{◌⊎◌, ◌==◌, if◌then◌else◌, IsErrOf, IfOk, IfSome}
 use Rattle.sd_outside.specs.Causes.{Rose}
 use Rattle.sd_stable_disk.specs.Image.{opens, holds}
 use Rattle.sd_stable_disk.specs.declared.errors.OpenError.{OpenError}
@@ -17,7 +17,6 @@ use Rattle.sd_boot.specs.declared.words.Program.{Program}
 use Rattle.sd_boot.specs.declared.words.Program.TheVariants.{Replay, Show, Pack, ImageMake, ImageShow}
 use Rattle.sd_boot.specs.Status.{status_for}
 use Rattle.sd_boot.specs.Words.{HasWords, IsImageShow, IsRow}
-use Rattle.sd_boot.specs.Images.{IsImageRefusal}
 use Rattle.sd_boot.specs.Programs.{Performs}
 use Rattle.sd_boot.proofs.Statuses.{Finished, whole_of, refusal_of, no_image_of, front_of, finished}
 

@@ -1,12 +1,12 @@
 -- What a replay writes, by how each of its parts ended.
-use Rattle.std.proofs.Common.{◌≡◌, ℕ, ◌<◌, List, [], ◌∷◌, ◌++◌, length, Option, Some, None, Result, Ok, Err, refl, sym, ◌∙◌, ap, subst, arith, inl, inr}
-use Rattle.std.specs.Prelude.{◌⊎◌, OnOk, OnErr, IfOk, IsErrOf, IfSome}
+use Rattle.std.proofs.Common.{◌≡◌, ℕ, ◌<◌, List, [], length, Option, Some, None, Result, Ok, Err, refl, sym, subst, inl, inr}
+use Rattle.std.specs.Prelude.{OnOk, OnErr, IfOk, IsErrOf, IfSome}
 use Rattle.sd_outside.specs.Streams.{Gains}
 use Rattle.sd_link.specs.Lawful.{IsFrontOf}
 use Rattle.sd_script.specs.declared.script.Script.{Script}
 use Rattle.sd_script.specs.Limits.{input_limit}
 use Rattle.sd_script.specs.Grammar.{IsScript, IsFirstOutside}
-use Rattle.sd_claims.specs.Headline.{Plays, PlaysFront, IsTranscript, IsRefusal, IsFront, IsCutShort, IsCutRefusal, refusal_line, Writes}
+use Rattle.sd_claims.specs.Headline.{Plays, PlaysFront, IsRefusal, IsFront, refusal_line, Writes}
 use Rattle.sd_boot_chain.specs.Writing.{GainsFront}
 use Rattle.sd_boot_chain.proofs.Gaining.{gains_nothing}
 use Rattle.sd_boot.specs.declared.status.Ended.{Ended}

@@ -1,6 +1,6 @@
 -- What a status says of how a run ended, for a program that owes P.
-use Rattle.std.proofs.Common.{◌≡◌, ℕ, ◌≤◌, List, Option, Some, None, Result, Ok, Err, refl, arith, inl, inr}
-use Rattle.std.specs.Prelude.{◌⊎◌, IsErrOf, IfSome}
+use Rattle.std.proofs.Common.{◌≡◌, ℕ, ◌≤◌, List, Option, Some, None, Result, Ok, Err, refl, arith}
+use Rattle.std.specs.Prelude.{IsErrOf, IfSome}
 use Rattle.sd_outside.specs.Causes.{Rose}
 use Rattle.sd_claims.specs.Headline.{Writes}
 use Rattle.sd_boot.specs.declared.status.Ended.{Ended}

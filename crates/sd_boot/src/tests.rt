@@ -1,5 +1,6 @@
 //! The worked rows, from input to output and status.
 
+mod images;
 mod texts;
 
 use super::*;
@@ -87,9 +88,9 @@ fn words(alloc: Global, all: &[&str]) -> Result<Vec<Text>, Fail> {
     Ok(words)
 }
 
-/// What the program of a word writes, and its status.
-fn ran(alloc: Global, word: &str, input: &[u8]) -> Result<(u8, ByteList), Fail> {
-    let words = words(alloc, &[word])?;
+/// What the program of these words writes, and its status.
+fn ran(alloc: Global, all: &[&str], input: &[u8]) -> Result<(u8, ByteList), Fail> {
+    let words = words(alloc, all)?;
     let mut source = CalmSource::new(alloc, input)?;
     let mut sink = CalmSink::new(alloc, 65_536)?;
     let status = run(alloc, words.as_slice(), &mut source, &mut sink);
@@ -105,7 +106,7 @@ fn plays_the_rows(rt: HostRuntime) -> Result<(), Fail> {
         ROW_0, ROW_1, ROW_2, ROW_3, ROW_4, ROW_5, ROW_6, ROW_7, ROW_8,
     ];
     for row in &rows {
-        let (status, output) = ran(rt.alloc(), "replay", row.input)?;
+        let (status, output) = ran(rt.alloc(), &["replay"], row.input)?;
         assert_eq!(rt; status, row.status);
         assert_eq!(rt; output.as_slice(), row.output);
     }
@@ -115,7 +116,7 @@ fn plays_the_rows(rt: HostRuntime) -> Result<(), Fail> {
 #[test]
 fn shows_and_packs_the_rows(rt: HostRuntime) -> Result<(), Fail> {
     for row in &TEXT_ROWS {
-        let (status, output) = ran(rt.alloc(), row.word, row.input)?;
+        let (status, output) = ran(rt.alloc(), &[row.word], row.input)?;
         assert_eq!(rt; status, row.status);
         assert_eq!(rt; output.as_slice(), row.output);
     }

@@ -1,5 +1,4 @@
-use Rattle.std.proofs.Common.{rules, ◌≡◌, ◌+◌, ◌≤◌, ◌++◌, ℕ, List, [], length, get_or, refl, sym, ◌∙◌, ap, subst, arith}
-use Rattle.std.proofs.lemmas.Option.{IfSome_then}
+use Rattle.std.proofs.Common.{◌≡◌, ◌++◌, ℕ, List, [], get_or, refl, ◌∙◌, subst, arith}
 use Rattle.std.specs.Prelude.{Option, IfSome}
 use Rattle.sd_outside.specs.Ranges.{part}
 use Rattle.sd_stable_disk.specs.Image.{held}

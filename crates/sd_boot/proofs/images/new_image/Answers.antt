@@ -1,4 +1,4 @@
-use Rattle.std.proofs.Common.{Option, Some, None, sym, subst}
+use Rattle.std.proofs.Common.{Option, None, sym, subst}
 use Rattle.std.specs.Prelude.{IfOk, IfSome}
 use Rattle.sd_link.specs.declared.config.SwapLine.{SwapLine}
 use Rattle.sd_link.specs.Config.{IsSwap}

@@ -1,4 +1,4 @@
-use Rattle.std.proofs.Common.{◌≡◌, List, Option, Result, Ok, Err}
+use Rattle.std.proofs.Common.{Result, Ok, Err}
 use Rattle.std.specs.Prelude.{OnErr}
 use Rattle.sd_segment.specs.Segment.{history_of}
 use Rattle.sd_boot.proofs.Composing.{unplayed, play_done, play_cut}

@@ -1,5 +1,4 @@
-use Rattle.std.proofs.Common.{◌≡◌, ℕ, List, Option, Result, Ok, Err, subst}
-use Rattle.std.specs.Prelude.{IfOk, IfSome, Some, []}
+use Rattle.std.proofs.Common.{ℕ, List, subst}
 use Rattle.sd_boot.specs.Play.{GainsSome}
 use Rattle.sd_boot.specs.Replay.{Replays}
 use Rattle.sd_boot.proofs.Replaying.{replayed, read_whole}

@@ -1,7 +1,7 @@
-use Rattle.std.proofs.Common.{◌≡◌, List, Option, Result, Ok, Err, subst}
+use Rattle.std.proofs.Common.{subst}
 use Rattle.sd_script.specs.declared.error.ScriptError.{ScriptError}
 use Rattle.sd_script.specs.Grammar.{IsScriptError}
-use Rattle.sd_boot.proofs.Replaying.{no_memory, refused, played_text}
+use Rattle.sd_boot.proofs.Replaying.{refused}
 use Rattle.sd_boot.proofs.replay.replay_text.Goals as goal
 
 pub returns-in-Err-Line-clause-told : goal.returns-in-Err-Line-clause-told
