@@ -1,6 +1,7 @@
 -- In a calm script each command is ok.
 use Rattle.std.proofs.Common.{◌≡◌, ℕ, ◌*◌, ◌==◌, ◌≤◌, Bool, true, false, cond, List, [], ◌∷◌, ◌++◌, length, Option, Some, None, refl, sym, ◌∙◌, ap, subst, arith, append_assoc, length-append}
 use Rattle.std.proofs.lemmas.List.{append-nil}
+use Rattle.std.specs.Prelude.{◌≢◌}
 use Rattle.std.specs.List.{flat_map, AllByRecursion}
 use Rattle.sd_outside.specs.declared.packet.Packet.{Packet}
 use Rattle.sd_link.specs.declared.config.Config.{Config}
@@ -12,21 +13,21 @@ use Rattle.sd_link.specs.World.{World, start}
 use Rattle.sd_link.specs.Steps.{Step, Send, Get, Entry, Sent, Served, Got, after, entries_of, run, record_of, AllAllowed, goes_to_client}
 use Rattle.sd_link.specs.Parts.{sends_in, got_in, ticks_in}
 use Rattle.sd_link.specs.Lawful.{IsLawful, AllInTurn, InTurn, AllGot, Settles, SendsSettled, IsFrontOf, got_at, due_to_client}
-use Rattle.sd_link.proofs.Histories.{run-append, record-append, sends-append, got-append, ticks-append}
+use Rattle.sd_link.proofs.Histories.{run-append, allowed-split, record-append, sends-append, got-append, ticks-append}
 use Rattle.sd_script.specs.declared.script.Script.{Script}
 use Rattle.sd_script.specs.declared.script.Command.{Command}
-use Rattle.sd_script.specs.declared.script.Command.TheVariants.{Addr, Wait}
+use Rattle.sd_script.specs.declared.script.Command.TheVariants.{Addr, Boot, Wait}
 use Rattle.sd_script.specs.declared.told.Told.{Told}
-use Rattle.sd_script.specs.declared.told.Told.TheVariants.{AddrOk, AddrTimeout, AddrFlood, AddrLinkFault, WaitOk, WaitFlood, WaitLinkFault}
-use Rattle.sd_claims.specs.Tries.{first_match, or_else}
-use Rattle.sd_claims.specs.Rarp.{told_address}
-use Rattle.sd_claims.specs.Causes.{IsCaused}
+use Rattle.sd_script.specs.declared.told.Told.TheVariants.{AddrOk, AddrTimeout, AddrFlood, AddrLinkFault, BootUnbuilt, BootTimeout, BootFlood, BootRefused, BootTooLarge, BootLinkFault, WaitOk, WaitFlood, WaitLinkFault}
+use Rattle.sd_link.specs.Tries.{Answered, Flooded, TimedOut, AreUnmatched, IsTries}
+use Rattle.sd_claims.specs.Rarp.{Learned, rarp_request, rarp_hearing, learned_from}
+use Rattle.sd_claims.specs.Causes.{IsCaused, IsAddrCaused, IsWaitCaused, boots_after}
 use Rattle.sd_claims.specs.Transcript.{Done, AllCaused}
 use Rattle.sd_claims.specs.Ending.{Ends, AllEnd}
 use Rattle.sd_claims.specs.Session.{parts_of}
 use Rattle.sd_claims.specs.Headline.{IsCalm, IsOk}
-use Rattle.sd_boot_chain.proofs.Settling.{silent-settled}
-use Rattle.sd_boot.proofs.Honest.{allowed-split}
+use Rattle.sd_rpc_retry.proofs.Settling.{silent-settled}
+use Rattle.sd_rpc_retry.proofs.Getting.{sends_nothing}
 use Rattle.sd_boot.proofs.Stages.{Stages, AllGo, Rests, pause_few, pause_rests, Spaced, spaced_tries, thin_first, tries_rest, reply_waits}
 use Rattle.sd_boot.proofs.Following.{plain, request_of, reply_of, tells, Stands, stands_start, none_waits, due_length, Followed, follow}
 
@@ -81,13 +82,18 @@ lasting request tries wait (r ∷ q ∷ rests) some least two all waited =
     (r ++ (Send request ∷ (q ++ more)), refl, omega (arith, ticks-append r (Send request ∷ (q ++ more)), ticks-append q more, waited.0, waited.1.0))
 
 module _ (c : Config) (is : IsConfig c) where
+  -- a client that asks for its address sends nothing for what it gets
+  nothing_else : (rests : List (List Step)) → AllByRecursion (λ rest. sends_in rest ≡ flat_map (rarp_hearing c.client.mac).replies (got_in rest)) rests → AllByRecursion (λ rest. sends_in rest ≡ []) rests
+  nothing_else [] replied = tt
+  nothing_else (rest ∷ rests) replied = (sends_nothing (rarp_hearing c.client.mac) rest (λ packet. refl) replied.0, nothing_else rests replied.1)
+
   -- each reply matches
-  unmatched-none : (packets : List Packet) → AllByRecursion (λ p. p ≡ reply_of c) packets → first_match (told_address c.client.mac) packets ≡ None → packets ≡ []
+  unmatched-none : (packets : List Packet) → AllByRecursion (λ p. p ≡ reply_of c) packets → AreUnmatched (learned_from c.client.mac) packets → packets ≡ []
   unmatched-none [] all none = refl
-  unmatched-none (p ∷ ps) all none =
-      let told : told_address c.client.mac p ≡ Some c.client.ip = ap (told_address c.client.mac) all.0 ∙ tells c is in
-      let first : first_match (told_address c.client.mac) (p ∷ ps) ≡ Some c.client.ip = ap (λ (o : Option ℕ). or_else o (first_match (told_address c.client.mac) ps)) told in
-      absurd cc
+  unmatched-none (p ∷ ps) all none = absurd (never (sym none.0 ∙ ap (learned_from c.client.mac) all.0 ∙ tells c is))
+    where
+      never : {x : Learned} → None ≡ Some x → ⊥
+      never same = cc
 
   -- where the last step brought the last that was due, nothing waits
   last_here : (w : World) (entries : List Entry) (t : Stages) (id : ℕ) (packet : Packet) → InTurn c plain w entries (Get id packet) → Stands c is w (entries ++ Got w.tick id ∷ []) t → t.waiting ≡ 0
@@ -132,12 +138,13 @@ module _ (c : Config) (is : IsConfig c) where
     follow_tries rests cut silent sends =
         follow c is w entries s part at allowed turns sends (subst (λ (l : List Step). AllByRecursion (λ p. p ≡ request_of c) (sends_in l)) (sym cut) (asks_only (request_of c) rests silent))
 
-    address_next : (ip : ℕ) → IsCaused c Addr (AddrOk ip) part → Ends c plain w entries (AddrOk ip) part → Next w entries (record { part = part; answer = AddrOk ip })
+    address_next : (ip : ℕ) → IsAddrCaused c (AddrOk ip) part → Ends c plain w entries (AddrOk ip) part → Next w entries (record { part = part; answer = AddrOk ip })
     address_next ip caused ended =
-        let asks = caused.asks in
-        let f = follow_tries (asks.before ++ asks.last ∷ []) asks.is.cut asks.is.silent (ended.1 settled) in
+        let asks = caused.2.asks in
+        let silent = nothing_else (asks.before ++ asks.last ∷ []) asks.is.replied in
+        let f = follow_tries (asks.before ++ asks.last ∷ []) asks.is.cut silent (ended.1 settled) in
         let last = ended.0 in
-        let spaced = subst (λ (l : List Step). Spaced 0 l) (sym asks.is.cut) (spaced_tries (request_of c) c.wait asks.before asks.last is.wait.0 asks.is.silent asks.vain.waited) in
+        let spaced = subst (λ (l : List Step). Spaced 0 l) (sym asks.is.cut) (spaced_tries (request_of c) c.wait asks.before asks.last is.wait.0 silent asks.vain.waited) in
         let again = tries_rest 0 s f.t last.0 last.1 last.2 (thin_first s rests) (subst (λ (l : List Step). Spaced 0 l) last.3 spaced) (subst (λ (l : List Step). AllGo s l f.t) last.3 f.goes) in
         record {
           ok = tt;
@@ -150,10 +157,10 @@ module _ (c : Config) (is : IsConfig c) where
               (subst (λ (l : List Step). Stands c is (run c w l) (entries ++ record_of c w l) f.t) last.3 f.stands) again.none_waits);
         }
 
-    no_timeout : IsCaused c Addr AddrTimeout part → Ends c plain w entries AddrTimeout part → ⊥
+    no_timeout : IsAddrCaused c AddrTimeout part → Ends c plain w entries AddrTimeout part → ⊥
     no_timeout caused ended =
         let ends = ended settled in
-        let f = follow_tries caused.rests caused.is.cut caused.is.silent ends.0 in
+        let f = follow_tries caused.rests caused.is.cut (nothing_else caused.rests caused.is.replied) ends.0 in
         let none = unmatched-none (got_in part) f.replies caused.unmatched in
         let long = lasting (request_of c) c.tries c.wait caused.rests is.tries.0 is.wait.0 patient caused.all caused.vain.waited in
         let cut : part ≡ Send (request_of c) ∷ long.0 = caused.is.cut ∙ long.1 in
@@ -162,14 +169,14 @@ module _ (c : Config) (is : IsConfig c) where
         let waits = reply_waits goes.0 f.t long.0 goes.2 got_none (omega (arith, goes.1.new_sent)) long.2 in
         omega (arith, waits, none_waits c is (run c w part) (entries ++ record_of c w part) f.t f.stands ends.1)
 
-    no_flood : IsCaused c Addr (AddrFlood stage.Rarp) part → Ends c plain w entries (AddrFlood stage.Rarp) part → ⊥
+    no_flood : IsAddrCaused c (AddrFlood stage.Rarp) part → Ends c plain w entries (AddrFlood stage.Rarp) part → ⊥
     no_flood caused ended =
         let asks = caused.asks in
-        let f = follow_tries (asks.before ++ asks.last ∷ []) asks.is.cut asks.is.silent (ended settled) in
+        let f = follow_tries (asks.before ++ asks.last ∷ []) asks.is.cut (nothing_else (asks.before ++ asks.last ∷ []) asks.is.replied) (ended settled) in
         let none = unmatched-none (got_in part) f.replies caused.unmatched in
         omega (arith, caused.many, last_within (request_of c) asks.before asks.last, ap (λ (l : List Step). length (got_in l)) asks.is.cut, ap length none)
 
-    pause_next : (ticks shown : ℕ) → IsCaused c (Wait ticks) (WaitOk shown) part → Ends c plain w entries (WaitOk shown) part → Next w entries (record { part = part; answer = WaitOk shown })
+    pause_next : (ticks shown : ℕ) → IsWaitCaused ticks (WaitOk shown) part → Ends c plain w entries (WaitOk shown) part → Next w entries (record { part = part; answer = WaitOk shown })
     pause_next ticks shown caused ended =
         let silent = caused.1.silent in
         let f = follow_silent silent in
@@ -181,47 +188,68 @@ module _ (c : Config) (is : IsConfig c) where
           settled = ended;
         }
 
-    no_wait_flood : (ticks shown : ℕ) → IsCaused c (Wait ticks) (WaitFlood shown) part → ⊥
+    no_wait_flood : (ticks shown : ℕ) → IsWaitCaused ticks (WaitFlood shown) part → ⊥
     no_wait_flood ticks shown caused =
         let silent = caused.1.silent in
         let f = follow_silent silent in
         omega (arith, caused.1.many, pause_few s f.t part rests f.goes silent)
 
-    next : (command : Command) (answer : Told) → IsCaused c command answer part → Ends c plain w entries answer part → Next w entries (record { part = part; answer = answer })
-    next Addr (AddrOk ip) caused ended = address_next ip caused ended
-    next Addr AddrTimeout caused ended = absurd (no_timeout caused ended)
-    next Addr (AddrFlood stage.Rarp) caused ended = absurd (no_flood caused ended)
-    next Addr (AddrFlood stage.Wait) caused ended = absurd caused
-    next Addr AddrLinkFault caused ended = absurd caused
-    next (Wait ticks) (WaitOk shown) caused ended = pause_next ticks shown caused ended
-    next (Wait ticks) (WaitFlood shown) caused ended = absurd (no_wait_flood ticks shown caused)
-    next (Wait ticks) (WaitLinkFault shown) caused ended = absurd caused
-    next Addr (WaitOk shown) caused ended = absurd caused
-    next Addr (WaitFlood shown) caused ended = absurd caused
-    next Addr (WaitLinkFault shown) caused ended = absurd caused
-    next (Wait ticks) (AddrOk ip) caused ended = absurd caused
-    next (Wait ticks) AddrTimeout caused ended = absurd caused
-    next (Wait ticks) (AddrFlood step) caused ended = absurd caused
-    next (Wait ticks) AddrLinkFault caused ended = absurd caused
+    addr_next : (answer : Told) → IsAddrCaused c answer part → Ends c plain w entries answer part → Next w entries (record { part = part; answer = answer })
+    addr_next (AddrOk ip) caused ended = address_next ip caused ended
+    addr_next AddrTimeout caused ended = absurd (no_timeout caused ended)
+    addr_next (AddrFlood stage.Rarp) caused ended = absurd (no_flood caused ended)
+    addr_next (AddrFlood stage.Tftp) caused ended = absurd caused
+    addr_next (AddrFlood stage.Whoami) caused ended = absurd caused
+    addr_next (AddrFlood stage.Wait) caused ended = absurd caused
+    addr_next AddrLinkFault caused ended = absurd caused
+    addr_next (BootUnbuilt step program) caused ended = absurd caused
+    addr_next (BootTimeout step) caused ended = absurd caused
+    addr_next (BootFlood step) caused ended = absurd caused
+    addr_next (BootRefused step code) caused ended = absurd caused
+    addr_next (BootTooLarge size) caused ended = absurd caused
+    addr_next BootLinkFault caused ended = absurd caused
+    addr_next (WaitOk shown) caused ended = absurd caused
+    addr_next (WaitFlood shown) caused ended = absurd caused
+    addr_next (WaitLinkFault shown) caused ended = absurd caused
+
+    wait_next : (ticks : ℕ) (answer : Told) → IsWaitCaused ticks answer part → Ends c plain w entries answer part → Next w entries (record { part = part; answer = answer })
+    wait_next ticks (WaitOk shown) caused ended = pause_next ticks shown caused ended
+    wait_next ticks (WaitFlood shown) caused ended = absurd (no_wait_flood ticks shown caused)
+    wait_next ticks (WaitLinkFault shown) caused ended = absurd caused
+    wait_next ticks (AddrOk ip) caused ended = absurd caused
+    wait_next ticks AddrTimeout caused ended = absurd caused
+    wait_next ticks (AddrFlood step) caused ended = absurd caused
+    wait_next ticks AddrLinkFault caused ended = absurd caused
+    wait_next ticks (BootUnbuilt step program) caused ended = absurd caused
+    wait_next ticks (BootTimeout step) caused ended = absurd caused
+    wait_next ticks (BootFlood step) caused ended = absurd caused
+    wait_next ticks (BootRefused step code) caused ended = absurd caused
+    wait_next ticks (BootTooLarge size) caused ended = absurd caused
+    wait_next ticks BootLinkFault caused ended = absurd caused
+
+    next : (boots : ℕ) (command : Command) (answer : Told) → command ≢ Boot → IsCaused c boots command answer part → Ends c plain w entries answer part → Next w entries (record { part = part; answer = answer })
+    next boots Addr answer other caused ended = addr_next answer caused ended
+    next boots Boot answer other caused ended = absurd (other refl)
+    next boots (Wait ticks) answer other caused ended = wait_next ticks answer caused ended
 
   -- ---- all commands
 
-  all_ok : 2 ≤ c.tries * c.wait → (w : World) (entries : List Entry) (s : Stages) (commands : List Command) (done : List Done) → Stands c is w entries s → Rests s → AllGot c plain w entries
-      → AllAllowed c w (parts_of done) → AllInTurn c plain w entries (parts_of done) → AllCaused c commands done → AllEnd c plain w entries done → AllByRecursion (λ d. IsOk d.answer) done
-  all_ok patient w entries s commands [] at rests settled allowed turns caused ended = tt
-  all_ok patient w entries s [] (d ∷ ds) at rests settled allowed turns caused ended = absurd caused
-  all_ok patient w entries s (k ∷ ks) (d ∷ ds) at rests settled allowed turns caused ended =
-      let a = allowed-split c is w d.part (parts_of ds) allowed in
+  all_ok : 2 ≤ c.tries * c.wait → (w : World) (entries : List Entry) (s : Stages) (boots : ℕ) (commands : List Command) (done : List Done) → AllByRecursion (λ command. command ≢ Boot) commands → Stands c is w entries s → Rests s → AllGot c plain w entries
+      → AllAllowed c w (parts_of done) → AllInTurn c plain w entries (parts_of done) → AllCaused c boots commands done → AllEnd c plain w entries done → AllByRecursion (λ d. IsOk d.answer) done
+  all_ok patient w entries s boots commands [] others at rests settled allowed turns caused ended = tt
+  all_ok patient w entries s boots [] (d ∷ ds) others at rests settled allowed turns caused ended = absurd caused
+  all_ok patient w entries s boots (k ∷ ks) (d ∷ ds) others at rests settled allowed turns caused ended =
+      let a = allowed-split c w d.part (parts_of ds) allowed in
       let t = in_turn-split c plain w entries d.part (parts_of ds) turns in
-      let n = next patient w entries s d.part at rests settled a.0 t.0 k d.answer caused.0 ended.0 in
-      (n.ok, all_ok patient (run c w d.part) (entries ++ record_of c w d.part) n.t ks ds n.stands n.rests n.settled a.1 t.1 caused.1 ended.1)
+      let n = next patient w entries s d.part at rests settled a.0 t.0 boots k d.answer others.0 caused.0 ended.0 in
+      (n.ok, all_ok patient (run c w d.part) (entries ++ record_of c w d.part) n.t (boots_after boots d.answer) ks ds others.1 n.stands n.rests n.settled a.1 t.1 caused.1 ended.1)
 
 -- all answers of a calm script are ok
-pub complete : (s : Script) → IsConfig s.config → (commands : List Command) (done : List Done) → IsLawful s.config (fates_of s.events) (parts_of done) → AllCaused s.config commands done
-    → AllEnd s.config (fates_of s.events) (start s.config) [] done → IsCalm s → AllByRecursion (λ d. IsOk d.answer) done
-complete s is commands done law caused ended calm =
+pub complete : (s : Script) → IsConfig s.config → (commands : List Command) (done : List Done) → IsLawful s.config (fates_of s.events) (parts_of done) → AllCaused s.config 0 commands done
+    → AllEnd s.config (fates_of s.events) (start s.config) [] done → AllByRecursion (λ command. command ≢ Boot) commands → IsCalm s → AllByRecursion (λ d. IsOk d.answer) done
+complete s is commands done law caused ended others calm =
     let c = s.config in
-    all_ok c is calm.patient (start c) [] (record { sent = 0; asked = 0; replied = 0; waiting = 0 }) commands done (stands_start c is)
+    all_ok c is calm.patient (start c) [] (record { sent = 0; asked = 0; replied = 0; waiting = 0 }) 0 commands done others (stands_start c is)
     (record { none_sent = refl; few = omega arith; none_waits = refl }) refl law.allowed
     (subst (λ (l : List Fate). AllInTurn c (fate_in l) (start c) [] (parts_of done)) calm.plain law.in_turn) caused
     (subst (λ (l : List Fate). AllEnd c (fate_in l) (start c) [] done) calm.plain ended)

@@ -1,6 +1,7 @@
 -- From a session over a lawful history to the transcript of a script.
-use Rattle.std.proofs.Common.{◌≡◌, ℕ, ◌<◌, List, [], ◌∷◌, ◌++◌, take, Option, Some, refl, ap, subst, arith, inl, inr}
-use Rattle.std.specs.Prelude.{◌⊎◌}
+use Rattle.std.specs.List.{AllByRecursion}
+use Rattle.std.proofs.Common.{◌≡◌, ℕ, zero, suc, ◌<◌, List, [], ◌∷◌, ◌++◌, take, Option, Some, refl, ap, subst, arith, inl, inr}
+use Rattle.std.specs.Prelude.{◌⊎◌, ◌≢◌}
 use Rattle.sd_outside.specs.Causes.{Rose}
 use Rattle.sd_outside.specs.Streams.{Gains}
 use Rattle.sd_link.specs.declared.config.Config.{Config}
@@ -15,12 +16,14 @@ use Rattle.sd_link.specs.Link.{GoesOn, Moves, last_tick}
 use Rattle.sd_link.proofs.Histories.{world-goes, tick-run}
 use Rattle.sd_script.specs.declared.script.Script.{Script}
 use Rattle.sd_script.specs.declared.script.Command.{Command}
+use Rattle.sd_script.specs.declared.script.Command.TheVariants.{Boot}
 use Rattle.sd_claims.specs.Machine.{first_state}
 use Rattle.sd_claims.specs.Transcript.{Done, AllCaused}
 use Rattle.sd_claims.specs.Ending.{AllEnd}
 use Rattle.sd_claims.specs.Session.{parts_of, IsSession, IsCutSession}
-use Rattle.sd_claims.specs.Headline.{AreDone, Plays, PlaysFront, written}
-use Rattle.sd_boot_chain.specs.Client.{Lasts, most_session_ticks}
+use Rattle.sd_claims.specs.Headline.{AreDone, IsCalm, Plays, PlaysFront, written}
+use Rattle.sd_rpc_retry.specs.Lasting.{Lasts}
+use Rattle.sd_boot_chain.specs.Durations.{most_session_ticks}
 use Rattle.sd_boot_chain.proofs.Gaining.{gains_nothing}
 use Rattle.sd_boot.specs.Play.{GainsSome}
 use Rattle.sd_boot.proofs.Honest.{answers_run}
@@ -53,14 +56,20 @@ lawful_part s new part goes law =
     subst (λ (l : List Step). IsLawful s.config (fates_of s.events) l) goes.steps
     (subst (λ (e : Events). IsLawful s.config (fates_of e) new.steps) goes.events (subst (λ (c : Config). IsLawful c (fates_of new.events) new.steps) goes.config law))
 
+-- what holds of all holds of the first of them
+all_taken : {A : Type 0} (P : A → Type 0) (count : ℕ) (xs : List A) → AllByRecursion P xs → AllByRecursion P (take count xs)
+all_taken P zero xs all = tt
+all_taken P (suc count) [] all = tt
+all_taken P (suc count) (x ∷ xs) all = (all.0, all_taken P count xs all.1)
+
 -- commands that were done over a lawful history, each with its cause and ending as it says, are done as the script owes
-done_so : (s : Script) → IsConfig s.config → (commands : List Command) (done : List Done) → IsLawful s.config (fates_of s.events) (parts_of done) → AllCaused s.config commands done
-    → AllEnd s.config (fates_of s.events) (start s.config) [] done → AreDone s commands done
-done_so s is commands done law caused ended = record {
+done_so : (s : Script) → IsConfig s.config → (commands : List Command) (done : List Done) → IsLawful s.config (fates_of s.events) (parts_of done) → AllCaused s.config 0 commands done
+    → AllEnd s.config (fates_of s.events) (start s.config) [] done → (IsCalm s → AllByRecursion (λ command. command ≢ Boot) commands) → AreDone s commands done
+done_so s is commands done law caused ended others = record {
   lawful = law;
-  machine = answers_run s.config is first_state (start s.config) commands done tt law.allowed caused;
+  machine = answers_run s.config is commands done law.allowed caused;
   caused = caused;
-  complete = complete s is commands done law caused ended;
+  complete = λ calm. complete s is commands done law caused ended (others calm) calm;
 }
 
 -- ---- the whole
@@ -74,7 +83,7 @@ played s client before after new is is_for law moved =
     let lawful = subst (λ (l : List Step). IsLawful s.config (fates_of s.events) l) session.cut (lawful_part s new part moved.1 law) in (
       written s session.done,
       session.text,
-      record { done = session.done; all = done_so s is s.commands session.done lawful session.caused session.ended; whole = refl },
+      record { done = session.done; all = done_so s is s.commands session.done lawful session.caused session.ended (λ calm. calm.no_boot); whole = refl },
     )
 
 pub cut_short : (s : Script) (client : ClientConfig) (before after : Option (List ℕ)) (new : History) → IsConfig s.config → IsFor s.config client → LawfulHistory new
@@ -87,7 +96,7 @@ cut_short s client before after new is is_for law moved =
     let front = lawful-front s.config (fates_of s.events) (parts_of session.done) session.more lawful in (
       session.front,
       session.text,
-      record { count = session.count; done = session.done; some = done_so s is (take session.count s.commands) session.done front session.caused session.ended; front = session.short },
+      record { count = session.count; done = session.done; some = done_so s is (take session.count s.commands) session.done front session.caused session.ended (λ calm. all_taken _ session.count s.commands calm.no_boot); front = session.short },
     )
 
 -- ---- no fault of the link comes in a session

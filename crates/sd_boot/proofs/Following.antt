@@ -18,12 +18,13 @@ use Rattle.sd_rarp.proofs.RoundTrip.{reading-reply, reading-request}
 use Rattle.sd_link.specs.declared.config.Config.{Config}
 use Rattle.sd_link.specs.Config.{IsConfig}
 use Rattle.sd_link.specs.Events.{Fates, fate_in}
-use Rattle.sd_link.specs.World.{World, Flying, Sender, Client, Server, start, sent_by}
-use Rattle.sd_link.specs.Reply.{rarp_answer, as_frame, out_of}
-use Rattle.sd_link.specs.Steps.{Step, Tick, Send, Serve, Get, Entry, Sent, Served, Got, after, served, replies_to, sent_from, entries_of, run, record_of, Allowed, AllAllowed, goes_to_server, goes_to_client, reaches_server, reaches_client}
+use Rattle.sd_link.specs.World.{World, Session, ServerPart, Flying, Sender, Client, Server, start, sent_by}
+use Rattle.sd_link.specs.Sessions.{session_in}
+use Rattle.sd_link.specs.Reply.{rarp_answer, as_frame, out_of, next_of}
+use Rattle.sd_link.specs.Steps.{Step, Tick, Send, Serve, Data, End, Get, Entry, Sent, Served, Got, after, served, replies_to, sent_from, entries_of, run, record_of, Allowed, AllAllowed, goes_to_server, goes_to_client, reaches_server, reaches_client}
 use Rattle.sd_link.specs.Parts.{sends_in, got_in}
 use Rattle.sd_link.specs.Lawful.{InTurn, AllInTurn, AllGot, SendsSettled, IsFrontOf, served_at, got_at, due, due_to_server, due_to_client, copies_at}
-use Rattle.sd_claims.specs.Rarp.{rarp_request, told_address, address_in, broadcast_mac}
+use Rattle.sd_claims.specs.Rarp.{Learned, rarp_request, learned_from, learned_in, broadcast_mac}
 use Rattle.sd_boot.proofs.Stages.{Stages, Goes, AllGo}
 
 -- without fates each packet comes once, a tick after it was sent
@@ -156,15 +157,17 @@ module _ (c : Config) (is : IsConfig c) where
       (bytes_eq-Decides (take 6 (frame_bytes (Reply c.client.mac c.server.mac c.server.mac c.server.ip c.client.mac c.client.ip))) mac).1 all.0
 
   -- and tells it its address
-  pub tells : told_address c.client.mac (reply_of c) ≡ Some c.client.ip
+  pub tells : learned_from c.client.mac (reply_of c) ≡ Some (record { address = c.client.ip; responder = c.server.ip })
   tells =
       let mac = c.client.mac in
-      ap (address_in mac) (reading-reply mac c.server.mac c.server.mac c.server.ip mac c.client.ip is.client.mac.wide is.server.mac.wide is.server.mac.wide is.client.mac.wide (omega (arith, is.server.ip.1)) (omega (arith, is.client.ip.1)))
-      ∙ ap (λ (t : Bool). cond t (Some c.client.ip) None) (its_own mac)
+      let told : Learned = record { address = c.client.ip; responder = c.server.ip } in
+      ap (learned_in mac) (reading-reply mac c.server.mac c.server.mac c.server.ip mac c.client.ip is.client.mac.wide is.server.mac.wide is.server.mac.wide is.client.mac.wide (omega (arith, is.server.ip.1)) (omega (arith, is.client.ip.1)))
+      ∙ ap (λ (t : Bool). cond t (Some told) None) (its_own mac)
 
   -- ---- the stages of a world and its record
 
   pub record Stands (w : World) (entries : List Entry) (s : Stages) : Type 0 where
+    pub no_sessions : w.server.sessions ≡ []
     -- every packet is the request or its reply, and was sent
     pub packets : AllByRecursion (λ f. f.packet ≡ packet_from c f.from) w.flight
     pub flown : AllByRecursion (λ f. f.tick ≤ w.tick) w.flight
@@ -176,7 +179,7 @@ module _ (c : Config) (is : IsConfig c) where
     pub waiting : length (got_at w.tick entries) + s.waiting ≡ count (goes_to_client c) w.tick w.flight
 
   pub stands_start : Stands (start c) [] (record { sent = 0; asked = 0; replied = 0; waiting = 0 })
-  stands_start = record { packets = tt; flown = tt; past = λ later lt. (refl, refl); sent = refl; asked = refl; replied = refl; waiting = refl }
+  stands_start = record { no_sessions = refl; packets = tt; flown = tt; past = λ later lt. (refl, refl); sent = refl; asked = refl; replied = refl; waiting = refl }
 
   all-append : {A : Type 0} (P : A → Type 0) (xs ys : List A) → AllByRecursion P xs → AllByRecursion P ys → AllByRecursion P (xs ++ ys)
   all-append P [] ys first second = second
@@ -215,10 +218,11 @@ module _ (c : Config) (is : IsConfig c) where
       let past = at.past (w.tick + 1) (omega arith) in
       record {
         t = t;
-        goes = record { served = none_asked w entries s at turn.0; got = none_waits w entries s at turn.1; new_sent = refl; new_asked = refl; new_replied = refl; new_waiting = refl };
+        goes = record { served = none_asked w entries s at turn.0.0; got = none_waits w entries s at turn.1; new_sent = refl; new_asked = refl; new_replied = refl; new_waiting = refl };
         stands =
             subst (λ (l : List Entry). Stands (after c w Tick) l t) (sym (append-nil entries))
             (record {
+              no_sessions = at.no_sessions;
               packets = at.packets;
               flown = later_too w.tick w.flight at.flown;
               past = λ later lt. at.past later (omega (arith, lt));
@@ -238,8 +242,9 @@ module _ (c : Config) (is : IsConfig c) where
       let goes : goes_to_server c Client packet ≡ true = ap (λ (p : Packet). reaches_server c p) is_request in
       record {
         t = t;
-        goes = record { served = none_asked w entries s at turn; got = none_waits w entries s at settled; new_sent = refl; new_asked = refl; new_replied = refl; new_waiting = refl };
+        goes = record { served = none_asked w entries s at turn.0; got = none_waits w entries s at settled; new_sent = refl; new_asked = refl; new_replied = refl; new_waiting = refl };
         stands = record {
+          no_sessions = at.no_sessions;
           packets = all-append (λ g. g.packet ≡ packet_from c g.from) w.flight (f ∷ []) at.packets (is_request, tt);
           flown = all-append (λ g. g.tick ≤ w.tick) w.flight (f ∷ []) at.flown (omega arith, tt);
           past = λ later lt. (
@@ -291,6 +296,7 @@ module _ (c : Config) (is : IsConfig c) where
         t = t;
         goes = record { new_sent = refl; new_asked = is_left; new_replied = refl; new_waiting = refl };
         stands = record {
+          no_sessions = at.no_sessions;
           packets = all-append (λ g. g.packet ≡ packet_from c g.from) w.flight (f ∷ []) at.packets (refl, tt);
           flown = all-append (λ g. g.tick ≤ w.tick) w.flight (f ∷ []) at.flown (omega arith, tt);
           past = λ later lt. (
@@ -311,7 +317,12 @@ module _ (c : Config) (is : IsConfig c) where
       let here = allowed.1.sent in
       let is_request : f.packet ≡ request_of c = asks_it f.from f.packet allowed.2 (found (λ g. g.packet ≡ packet_from c g.from) w.flight id f at.packets here) in
       let out : out_of c w.tick w.server f.packet ≡ reply_of c ∷ [] = ap (λ (p : Packet). out_of c w.tick w.server p) is_request ∙ answered w.tick w in
-      let new : sent_by Server w (reply_of c ∷ []) ≡ after c w (Serve id) = sym (ap (λ (o : Option Flying). served c w o) here ∙ ap (λ (l : List Packet). sent_by Server w l) out) in
+      let same : next_of c w.tick w.server f.packet ≡ w.server = ap (λ (p : Packet). next_of c w.tick w.server p) is_request in
+      let new : sent_by Server w (reply_of c ∷ []) ≡ after c w (Serve id) =
+      sym
+      (ap (λ (o : Option Flying). served c w o) here
+      ∙ ap (λ (part : ServerPart). sent_by Server (record w { server = part }) (out_of c w.tick w.server f.packet)) same
+      ∙ ap (λ (l : List Packet). sent_by Server w l) out) in
       let more : Served w.tick id ∷ Sent w.tick (length w.flight) (reply_of c) ∷ [] ≡ entries_of c w (Serve id) =
       sym (ap (λ (o : Option Flying). Served w.tick id ∷ sent_from w.tick (length w.flight) (replies_to c w o)) here ∙ ap (λ (l : List Packet). Served w.tick id ∷ sent_from w.tick (length w.flight) l) out) in
       let left = one_left (served_at w.tick entries) (due_to_server c plain w) id s.asked (count (goes_to_server c) w.tick w.flight) turn at.asked (due_length (goes_to_server c) w.tick w.flight) in
@@ -327,8 +338,9 @@ module _ (c : Config) (is : IsConfig c) where
       let more = Got w.tick id ∷ [] in
       record {
         t = t;
-        goes = record { served = none_asked w entries s at turn.0; new_sent = refl; new_asked = refl; new_replied = refl; new_waiting = left.1 };
+        goes = record { served = none_asked w entries s at turn.0.0; new_sent = refl; new_asked = refl; new_replied = refl; new_waiting = left.1 };
         stands = record {
+          no_sessions = at.no_sessions;
           packets = at.packets;
           flown = at.flown;
           past = λ later lt. (
@@ -361,6 +373,13 @@ module _ (c : Config) (is : IsConfig c) where
     replies = replies;
   }
 
+  -- where there are no sessions, none is found
+  no_session : (w : World) (number : ℕ) (session : Session) → w.server.sessions ≡ [] → session_in number w.server.sessions ≡ Some session → ⊥
+  no_session w number session none found = never (sym (ap (session_in number) none) ∙ found)
+    where
+      never : None ≡ Some session → ⊥
+      never is = cc
+
   pub follow : (w : World) (entries : List Entry) (s : Stages) (steps : List Step) → Stands w entries s → AllAllowed c w steps → AllInTurn c plain w entries steps → SendsSettled c plain w entries steps
       → AllByRecursion (λ p. p ≡ request_of c) (sends_in steps) → Followed w entries s steps
   follow w entries s [] at allowed turns settled asks =
@@ -377,6 +396,8 @@ module _ (c : Config) (is : IsConfig c) where
       let o = serve_stands w entries s id at allowed.0 turns.0 in
       let r = follow (after c w (Serve id)) (entries ++ entries_of c w (Serve id)) o.t steps o.stands allowed.1 turns.1 settled asks in
       then_followed w entries s (Serve id) steps o r r.replies
+  follow w entries s (Data number ∷ steps) at allowed turns settled asks = absurd (no_session w number allowed.0.0 at.no_sessions allowed.0.1.found)
+  follow w entries s (End number ∷ steps) at allowed turns settled asks = absurd (no_session w number allowed.0.0 at.no_sessions allowed.0.1.found)
   follow w entries s (Get id packet ∷ steps) at allowed turns settled asks =
       let o = get_stands w entries s id packet at turns.0 in
       let r = follow w (entries ++ entries_of c w (Get id packet)) o.t steps o.stands allowed.1 turns.1 settled asks in

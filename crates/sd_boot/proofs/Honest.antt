@@ -1,188 +1,160 @@
--- The server tells the client its configured address and no other.
-use Rattle.std.proofs.Common.{◌≡◌, ℕ, zero, suc, Bool, true, false, cond, List, [], ◌∷◌, ◌++◌, length, map, Option, Some, None, Result, Ok, Err, refl, sym, ◌∙◌, ap, subst, arith}
-use Rattle.std.specs.Prelude.{slice_get}
-use Rattle.std.specs.Option.{option_map}
+-- What a command of a lawful run is answered is what the boot machine may answer.
+use Rattle.std.proofs.Common.{◌≡◌, ℕ, List, [], ◌∷◌, ◌++◌, map, Some, refl, sym, ◌∙◌, ap, subst, arith, append_assoc}
+use Rattle.std.proofs.lemmas.List.{append-nil}
 use Rattle.std.specs.List.{AllByRecursion}
-use Rattle.sd_outside.specs.declared.packet.Mac.{Mac}
-use Rattle.sd_outside.specs.declared.packet.Packet.{Packet}
-use Rattle.sd_outside.specs.declared.packet.Packet.TheVariants.{Frame, Udp}
-use Rattle.sd_rarp.specs.declared.frame.RarpFrame.{RarpFrame}
-use Rattle.sd_rarp.specs.declared.frame.RarpFrame.TheVariants.{Request, Reply}
-use Rattle.sd_rarp.specs.declared.frame.RarpError.{RarpError}
-use Rattle.sd_rarp.specs.Frame.{reading, frame_bytes}
-use Rattle.sd_rarp.specs.Answer.{is_mac, reply_with, address_of}
-use Rattle.sd_rarp.proofs.RoundTrip.{reading-reply}
-use Rattle.sd_rarp.proofs.Fields.{request_at, mac_wide}
+use Rattle.sd_outside.specs.declared.packet.Addr as declared
+use Rattle.sd_tftp.specs.Grammar.{HasNoZero}
 use Rattle.sd_link.specs.declared.config.Config.{Config}
-use Rattle.sd_link.specs.Config.{IsConfig}
-use Rattle.sd_link.specs.World.{World, Flying, Sender, Client, Server}
-use Rattle.sd_link.specs.Reply.{rarp_answer, as_frame, out_of}
-use Rattle.sd_link.specs.Steps.{Step, Tick, Send, Serve, Get, after, served, run, AllAllowed, goes_to_client}
-use Rattle.sd_link.specs.Parts.{got_in}
-use Rattle.sd_script.specs.declared.script.Command.{Command}
-use Rattle.sd_script.specs.declared.script.Command.TheVariants.{Addr, Wait}
-use Rattle.sd_script.specs.declared.told.Told.{Told}
-use Rattle.sd_script.specs.declared.told.Told.TheVariants.{AddrOk, AddrTimeout, AddrFlood, AddrLinkFault, WaitOk, WaitFlood, WaitLinkFault}
 use Rattle.sd_link.specs.declared.link.Stage.TheVariants as stage
-use Rattle.sd_claims.specs.Tries.{first_match, or_else}
-use Rattle.sd_claims.specs.Rarp.{told_address, address_in}
-use Rattle.sd_claims.specs.Causes.{IsCaused}
-use Rattle.sd_claims.specs.Machine.{State, IsRun, Answers}
+use Rattle.sd_link.specs.Config.{IsConfig}
+use Rattle.sd_link.specs.Program.{program_name, program_of, boot_file}
+use Rattle.sd_link.specs.World.{World, start}
+use Rattle.sd_link.specs.Steps.{Step, run, AllAllowed}
+use Rattle.sd_link.specs.Parts.{got_in}
+use Rattle.sd_link.specs.Requests.{AsksOnlyFor, KeepsOffRpc}
+use Rattle.sd_link.proofs.Histories.{run-append, allowed-split}
+use Rattle.sd_link.proofs.FromServer.{IsServers}
+use Rattle.sd_script.specs.declared.script.Command.{Command}
+use Rattle.sd_script.specs.declared.script.Command.TheVariants.{Addr, Boot, Wait}
+use Rattle.sd_script.specs.declared.told.Told.{Told}
+use Rattle.sd_script.specs.declared.told.Told.TheVariants.{AddrOk, AddrTimeout, AddrFlood, AddrLinkFault, BootUnbuilt, BootTimeout, BootFlood, BootRefused, BootTooLarge, BootLinkFault, WaitOk, WaitFlood, WaitLinkFault}
+use Rattle.sd_claims.specs.Fetching.{Fetched}
+use Rattle.sd_claims.specs.Booting.{AfterAddress, boot_fetch, fetch_port}
+use Rattle.sd_claims.specs.Causes.{IsCaused, IsAddrCaused, IsBootCaused, IsWaitCaused, boots_after}
+use Rattle.sd_claims.specs.Machine.{State, first_state, IsAddrAnswer, IsBootAnswer, IsWaitAnswer, Answers, IsRun}
 use Rattle.sd_claims.specs.Transcript.{Done, AllCaused}
 use Rattle.sd_claims.specs.Session.{parts_of}
+use Rattle.sd_boot_chain.proofs.TrustedFile.{fetched_is_configured}
+use Rattle.sd_link.proofs.ProgramNames.{program_name_clean}
+use Rattle.sd_boot_chain.proofs.ClientSends.{IsHonest, answered_right, honest_start, honest_got, honest_part, honest_asks, honest_keeps_off}
 
--- a packet tells the client its address or nothing
-abbrev pub TellsTruth : Config → Packet → Type 0
-TellsTruth c packet = (ip : ℕ) → told_address c.client.mac packet ≡ Some ip → ip ≡ c.client.ip
-
-abbrev pub HonestFrom : Config → Sender → Packet → Type 0
-HonestFrom c Client packet = Unit {0}
-HonestFrom c Server packet = TellsTruth c packet
-
-abbrev pub HonestFlying : Config → Flying → Type 0
-HonestFlying c f = HonestFrom c f.from f.packet
-
--- every packet of the server tells the truth
-abbrev pub Honest : Config → World → Type 0
-Honest c w = AllByRecursion (HonestFlying c) w.flight
-
--- ---- the server's replies
-
-some_is : (x y : ℕ) → Some x ≡ Some y → x ≡ y
-some_is x y e = cc
-
-when_mine : (t : Bool) (mine ip : ℕ) → cond t (Some mine) None ≡ Some ip → ip ≡ mine
-when_mine true mine ip e = sym (some_is mine ip e)
-when_mine false mine ip e = absurd cc
+-- The world that these steps lead to is honest, and what may happen in it next is this part.
+pub record Follows (c : Config) (before part : List Step) : Type 0 where
+  pub honest : IsHonest c (run c (start c) before)
+  pub allowed : AllAllowed c (run c (start c) before) part
 
 module _ (c : Config) (is : IsConfig c) where
-  -- a reply frame shows the client's address
-  reply_true : (src target : Mac) → length src.0 ≡ 6 → length target.0 ≡ 6 → TellsTruth c (Frame (frame_bytes (Reply src c.server.mac c.server.mac c.server.ip target c.client.ip)))
-  reply_true src target s t ip told =
-      let read = reading-reply src c.server.mac c.server.mac c.server.ip target c.client.ip s is.server.mac.wide is.server.mac.wide t (omega (arith, is.server.ip.1)) (omega (arith, is.client.ip.1)) in
-      when_mine (is_mac target c.client.mac) c.client.ip ip (sym (ap (address_in c.client.mac) read) ∙ told)
+  -- ---- a boot program is the configured one
 
-  frames_true : (o : Option RarpFrame) → ((frame : RarpFrame) → o ≡ Some frame → TellsTruth c (Frame (frame_bytes frame))) → AllByRecursion (TellsTruth c) (as_frame o)
-  frames_true None each = tt
-  frames_true (Some frame) each = (each frame refl, tt)
+  -- the world after the address was told is honest, and no other file was asked for
+  program_right : (before part : List Step) (boots : ℕ) (program : List ℕ) → Follows c before part → AfterAddress c boots (λ f. Fetched f program) part → program_of c ≡ Some program
+  program_right before part boots program h came =
+      let w = run c (start c) before in
+      let parts = allowed-split c w came.address came.fetch (subst (λ (l : List Step). AllAllowed c w l) came.cut h.allowed) in
+      let right = answered_right c came.learned came.address came.told (honest_got c is w came.address h.honest parts.0) in
+      let f = boot_fetch c boots came.learned in
+      let honest : IsHonest c (run c w came.address) = honest_part c is w boots Addr (AddrOk came.learned.address) came.address h.honest parts.0 (came.learned, refl, came.told) in
+      let there : run c (start c) (before ++ came.address) ≡ run c w came.address = run-append c (start c) before came.address in
+      let named : f.name ≡ program_name c.arch c.client.ip = ap (program_name c.arch) right.address in
+      let asks : AsksOnlyFor f.me f.name (run c (start c) (before ++ came.address)) =
+      subst (λ (v : World). AsksOnlyFor f.me f.name v) (sym there)
+      (subst (λ (n : List ℕ). AsksOnlyFor f.me n (run c w came.address)) (sym named) (honest_asks c is (run c w came.address) f.me honest)) in
+      let clean : HasNoZero f.name = subst (λ (n : List ℕ). HasNoZero n) (sym named) (program_name_clean c.arch c.client.ip is.arch (omega (arith, is.client.ip.1))) in
+      ap (boot_file c) (sym named)
+      ∙ fetched_is_configured c is (before ++ came.address) came.fetch f program clean asks (subst (λ (v : World). AllAllowed c v came.fetch) (sym there) parts.1) came.came_of
 
-  with_true : (src target : Mac) → length src.0 ≡ 6 → length target.0 ≡ 6 → (o : Option ℕ) → ((ip : ℕ) → o ≡ Some ip → ip ≡ c.client.ip)
-      → AllByRecursion (TellsTruth c) (as_frame (reply_with (c.server.mac, c.server.ip) src target o))
-  with_true src target s t None mine = tt
-  with_true src target s t (Some ip) mine =
-      (subst (λ (n : ℕ). TellsTruth c (Frame (frame_bytes (Reply src c.server.mac c.server.mac c.server.ip target n)))) (sym (mine ip refl)) (reply_true src target s t), tt)
+  -- ---- one answer is the machine's
 
-  table_true : (target : Mac) (ip : ℕ) → address_of ((c.client.mac, c.client.ip) ∷ []) target ≡ Some ip → ip ≡ c.client.ip
-  table_true target ip e = of (is_mac c.client.mac target) e
-    where
-      of : (t : Bool) → option_map (λ (entry : Mac × ℕ). entry.1) (cond t (Some (c.client.mac, c.client.ip)) None) ≡ Some ip → ip ≡ c.client.ip
-      of true e = sym (some_is c.client.ip ip e)
-      of false e = absurd cc
+  addr_right : (answer : Told) (part : List Step) → AllByRecursion (IsServers c) (got_in part) → IsAddrCaused c answer part → IsAddrAnswer c answer
+  addr_right (AddrOk ip) part got caused = sym caused.1 ∙ (answered_right c caused.0 part caused.2 got).address
+  addr_right AddrTimeout part got caused = tt
+  addr_right (AddrFlood step) part got caused = tt
+  addr_right AddrLinkFault part got caused = tt
+  addr_right (BootUnbuilt step program) part got caused = absurd caused
+  addr_right (BootTimeout step) part got caused = absurd caused
+  addr_right (BootFlood step) part got caused = absurd caused
+  addr_right (BootRefused step code) part got caused = absurd caused
+  addr_right (BootTooLarge size) part got caused = absurd caused
+  addr_right BootLinkFault part got caused = absurd caused
+  addr_right (WaitOk shown) part got caused = absurd caused
+  addr_right (WaitFlood shown) part got caused = absurd caused
+  addr_right (WaitLinkFault shown) part got caused = absurd caused
 
-  answer_true : (bytes : List ℕ) (r : Result RarpFrame RarpError) → reading bytes ≡ r → AllByRecursion (TellsTruth c) (as_frame (rarp_answer c r))
-  answer_true bytes (Err why) e = tt
-  answer_true bytes (Ok (Reply dst src sender sender_ip target target_ip)) e = tt
-  answer_true bytes (Ok (Request dst src sender target)) e =
-      let at = request_at bytes dst src sender target e in
-      let s : length src.0 ≡ 6 = ap (λ (m : Mac). length m.0) at.1 ∙ mac_wide bytes 6 (omega (arith, at.0)) in
-      let t : length target.0 ≡ 6 = ap (λ (m : Mac). length m.0) at.2 ∙ mac_wide bytes 32 (omega (arith, at.0)) in
-      with_true src target s t (address_of ((c.client.mac, c.client.ip) ∷ []) target) (table_true target)
+  boot_right : (before : List Step) (boots : ℕ) (answer : Told) (part : List Step) → Follows c before part → IsBootCaused c boots answer part → IsBootAnswer c answer
+  boot_right before boots (BootUnbuilt stage.Whoami program) part h caused = (refl, program_right before part boots program h caused)
+  boot_right before boots (BootUnbuilt stage.Rarp program) part h caused = absurd caused
+  boot_right before boots (BootUnbuilt stage.Tftp program) part h caused = absurd caused
+  boot_right before boots (BootUnbuilt stage.Wait program) part h caused = absurd caused
+  boot_right before boots (BootTimeout step) part h caused = tt
+  boot_right before boots (BootFlood step) part h caused = tt
+  boot_right before boots (BootRefused step code) part h caused = tt
+  boot_right before boots (BootTooLarge size) part h caused = tt
+  boot_right before boots BootLinkFault part h caused = tt
+  boot_right before boots (AddrOk ip) part h caused = absurd caused
+  boot_right before boots AddrTimeout part h caused = absurd caused
+  boot_right before boots (AddrFlood step) part h caused = absurd caused
+  boot_right before boots AddrLinkFault part h caused = absurd caused
+  boot_right before boots (WaitOk shown) part h caused = absurd caused
+  boot_right before boots (WaitFlood shown) part h caused = absurd caused
+  boot_right before boots (WaitLinkFault shown) part h caused = absurd caused
 
-  out_true : (tick : ℕ) (w : World) (packet : Packet) → AllByRecursion (TellsTruth c) (out_of c tick w.server packet)
-  out_true tick w (Frame bytes) = answer_true bytes (reading bytes) refl
-  out_true tick w (Udp src dst body) = tt
+  wait_right : (ticks : ℕ) (answer : Told) (part : List Step) → IsWaitCaused ticks answer part → IsWaitAnswer ticks answer
+  wait_right ticks (WaitOk shown) part caused = caused.0
+  wait_right ticks (WaitFlood shown) part caused = caused.0
+  wait_right ticks (WaitLinkFault shown) part caused = absurd caused
+  wait_right ticks (AddrOk ip) part caused = absurd caused
+  wait_right ticks AddrTimeout part caused = absurd caused
+  wait_right ticks (AddrFlood step) part caused = absurd caused
+  wait_right ticks AddrLinkFault part caused = absurd caused
+  wait_right ticks (BootUnbuilt step program) part caused = absurd caused
+  wait_right ticks (BootTimeout step) part caused = absurd caused
+  wait_right ticks (BootFlood step) part caused = absurd caused
+  wait_right ticks (BootRefused step code) part caused = absurd caused
+  wait_right ticks (BootTooLarge size) part caused = absurd caused
+  wait_right ticks BootLinkFault part caused = absurd caused
 
-  -- ---- and stays so
+  -- An answer with its cause is one that the machine may give.
+  pub answer_right : (state : State) (before : List Step) (boots : ℕ) (command : Command) (answer : Told) (part : List Step) → Follows c before part → IsCaused c boots command answer part → Answers c state command answer state
+  answer_right state before boots Addr answer part h caused = (addr_right answer part (honest_got c is (run c (start c) before) part h.honest h.allowed) caused, refl)
+  answer_right state before boots Boot answer part h caused = (boot_right before boots answer part h caused, refl)
+  answer_right state before boots (Wait ticks) answer part h caused = (wait_right ticks answer part caused, refl)
 
-  all-append : {A : Type 0} (P : A → Type 0) (xs ys : List A) → AllByRecursion P xs → AllByRecursion P ys → AllByRecursion P (xs ++ ys)
-  all-append P [] ys first second = second
-  all-append P (x ∷ xs) ys first second = (first.0, all-append P xs ys first.1 second)
+  -- ---- and so are all
 
-  flown_true : (tick : ℕ) (packets : List Packet) → AllByRecursion (TellsTruth c) packets
-      → AllByRecursion (HonestFlying c) (map (λ packet. record { from = Server; tick = tick; packet = packet }) packets)
-  flown_true tick [] all = tt
-  flown_true tick (p ∷ ps) all = (all.0, flown_true tick ps all.1)
-
-  honest_served : (w : World) (f : Option Flying) → Honest c w → Honest c (served c w f)
-  honest_served w None h = h
-  honest_served w (Some f) h = all-append (HonestFlying c) w.flight _ h (flown_true w.tick (out_of c w.tick w.server f.packet) (out_true w.tick w f.packet))
-
-  honest_after : (w : World) (step : Step) → Honest c w → Honest c (after c w step)
-  honest_after w Tick h = h
-  honest_after w (Send packet) h = all-append (HonestFlying c) w.flight _ h (tt, tt)
-  honest_after w (Serve id) h = honest_served w (slice_get w.flight id) h
-  honest_after w (Get id packet) h = h
-
-  pub honest_run : (w : World) (steps : List Step) → Honest c w → Honest c (run c w steps)
-  honest_run w [] h = h
-  honest_run w (step ∷ steps) h = honest_run (after c w step) steps (honest_after w step h)
-
-  -- ---- so what the client gets is true
-
-  found : {A : Type 0} (P : A → Type 0) (xs : List A) (i : ℕ) (x : A) → AllByRecursion P xs → slice_get xs i ≡ Some x → P x
-  found P [] i x all e = absurd cc
-  found P (y ∷ ys) zero x all e = subst P (the y x e) all.0
-    where
-      the : {A : Type 0} (y x : A) → Some y ≡ Some x → y ≡ x
-      the y x e = cc
-  found P (y ∷ ys) (suc i) x all e = found P ys i x all.1 e
-
-  from_server : (from : Sender) (packet : Packet) → goes_to_client c from packet ≡ true → HonestFrom c from packet → TellsTruth c packet
-  from_server Client packet goes h = absurd cc
-  from_server Server packet goes h = h
-
-  got_true : (w : World) (steps : List Step) → Honest c w → AllAllowed c w steps → AllByRecursion (TellsTruth c) (got_in steps)
-  got_true w [] h all = tt
-  got_true w (Tick ∷ steps) h all = got_true (after c w Tick) steps h all.1
-  got_true w (Send packet ∷ steps) h all = got_true (after c w (Send packet)) steps (honest_after w (Send packet) h) all.1
-  got_true w (Serve id ∷ steps) h all = got_true (after c w (Serve id)) steps (honest_after w (Serve id) h) all.1
-  got_true w (Get id packet ∷ steps) h all =
-      let a = all.0 in
-      let f = a.0 in (
-        subst (TellsTruth c) a.3 (from_server f.from f.packet a.2 (found (HonestFlying c) w.flight id f h a.1.sent)),
-        got_true w steps h all.1,
+  -- what follows a command's part
+  follows_on : (before part more : List Step) (boots : ℕ) (command : Command) (answer : Told) → IsHonest c (run c (start c) before) → AllAllowed c (run c (start c) before) (part ++ more) → IsCaused c boots command answer part
+      → Follows c before part × Follows c (before ++ part) more
+  follows_on before part more boots command answer honest allowed caused =
+      let w = run c (start c) before in
+      let parts = allowed-split c w part more allowed in
+      let there : run c w part ≡ run c (start c) (before ++ part) = sym (run-append c (start c) before part) in (
+        record { honest = honest; allowed = parts.0 },
+        record {
+          honest = subst (λ (v : World). IsHonest c v) there (honest_part c is w boots command answer part honest parts.0 caused);
+          allowed = subst (λ (v : World). AllAllowed c v more) there parts.1;
+        },
       )
 
-  first_true : (packets : List Packet) (ip : ℕ) → AllByRecursion (TellsTruth c) packets → first_match (told_address c.client.mac) packets ≡ Some ip → ip ≡ c.client.ip
-  first_true [] ip all e = absurd cc
-  first_true (p ∷ ps) ip all e = of (λ later. first_true ps ip all.1 later) (told_address c.client.mac p) refl e
-    where
-      of : (first_match (told_address c.client.mac) ps ≡ Some ip → ip ≡ c.client.ip) → (o : Option ℕ) → told_address c.client.mac p ≡ o
-          → or_else o (first_match (told_address c.client.mac) ps) ≡ Some ip → ip ≡ c.client.ip
-      of later None is e = later e
-      of later (Some x) is e = sym (some_is x ip e) ∙ all.0 x is
-
-  pub allowed-split : (w : World) (xs ys : List Step) → AllAllowed c w (xs ++ ys) → AllAllowed c w xs × AllAllowed c (run c w xs) ys
-  allowed-split w [] ys all = (tt, all)
-  allowed-split w (x ∷ xs) ys all = let s = allowed-split (after c w x) xs ys all.1 in ((all.0, s.0), s.1)
-
-  -- one answer is the machine's
-  answer_right : (state : State) (w : World) (command : Command) (answer : Told) (part : List Step) → Honest c w → AllAllowed c w part → IsCaused c command answer part → Answers c state command answer state
-  answer_right state w Addr (AddrOk ip) part h all caused = (first_true (got_in part) ip (got_true w part h all) caused.first, refl)
-  answer_right state w Addr AddrTimeout part h all caused = refl
-  answer_right state w Addr (AddrFlood stage.Rarp) part h all caused = refl
-  answer_right state w Addr (AddrFlood stage.Wait) part h all caused = absurd caused
-  answer_right state w Addr AddrLinkFault part h all caused = absurd caused
-  answer_right state w (Wait ticks) (WaitOk shown) part h all caused = (caused.0, refl)
-  answer_right state w (Wait ticks) (WaitFlood shown) part h all caused = (caused.0, refl)
-  answer_right state w (Wait ticks) (WaitLinkFault shown) part h all caused = absurd caused
-  answer_right state w Addr (WaitOk shown) part h all caused = absurd caused
-  answer_right state w Addr (WaitFlood shown) part h all caused = absurd caused
-  answer_right state w Addr (WaitLinkFault shown) part h all caused = absurd caused
-  answer_right state w (Wait ticks) (AddrOk ip) part h all caused = absurd caused
-  answer_right state w (Wait ticks) AddrTimeout part h all caused = absurd caused
-  answer_right state w (Wait ticks) (AddrFlood step) part h all caused = absurd caused
-  answer_right state w (Wait ticks) AddrLinkFault part h all caused = absurd caused
-
-  -- and so are all
-  pub answers_run : (state : State) (w : World) (commands : List Command) (done : List Done) → Honest c w → AllAllowed c w (parts_of done) → AllCaused c commands done
+  -- Answers with their causes, after these steps and so many boots, are a run of the machine.
+  pub answers_after : (state : State) (before : List Step) (boots : ℕ) (commands : List Command) (done : List Done) → Follows c before (parts_of done) → AllCaused c boots commands done
       → IsRun c state commands (map (λ d. d.answer) done)
-  answers_run state w [] [] h all caused = tt
-  answers_run state w [] (d ∷ ds) h all caused = absurd caused
-  answers_run state w (k ∷ ks) [] h all caused = absurd caused
-  answers_run state w (k ∷ ks) (d ∷ ds) h all caused =
-      let parts = allowed-split w d.part (parts_of ds) all in (
+  answers_after state before boots [] [] h caused = tt
+  answers_after state before boots [] (d ∷ ds) h caused = absurd caused
+  answers_after state before boots (k ∷ ks) [] h caused = absurd caused
+  answers_after state before boots (k ∷ ks) (d ∷ ds) h caused =
+      let f = follows_on before d.part (parts_of ds) boots k d.answer h.honest h.allowed caused.0 in (
         state,
-        answer_right state w k d.answer d.part h parts.0 caused.0,
-        answers_run state (run c w d.part) ks ds (honest_run w d.part h) parts.1 caused.1,
+        answer_right state before boots k d.answer d.part f.0 caused.0,
+        answers_after state (before ++ d.part) (boots_after boots d.answer) ks ds f.1 caused.1,
       )
+
+  -- Answers with their causes, from the start on, are a run of the boot machine.
+  pub answers_run : (commands : List Command) (done : List Done) → AllAllowed c (start c) (parts_of done) → AllCaused c 0 commands done → IsRun c first_state commands (map (λ d. d.answer) done)
+  answers_run commands done allowed caused = answers_after first_state [] 0 commands done (record { honest = honest_start c is; allowed = allowed }) caused
+
+  -- The world after commands with their causes is honest.
+  pub honest_after : (before : List Step) (boots : ℕ) (commands : List Command) (done : List Done) → Follows c before (parts_of done) → AllCaused c boots commands done → IsHonest c (run c (start c) (before ++ parts_of done))
+  honest_after before boots [] [] h caused = subst (λ (l : List Step). IsHonest c (run c (start c) l)) (sym (append-nil before)) h.honest
+  honest_after before boots [] (d ∷ ds) h caused = absurd caused
+  honest_after before boots (k ∷ ks) [] h caused = absurd caused
+  honest_after before boots (k ∷ ks) (d ∷ ds) h caused =
+      let f = follows_on before d.part (parts_of ds) boots k d.answer h.honest h.allowed caused.0 in
+      subst (λ (l : List Step). IsHonest c (run c (start c) l)) (append_assoc before d.part (parts_of ds)) (honest_after (before ++ d.part) (boots_after boots d.answer) ks ds f.1 caused.1)
+
+  -- From each boot's port the client has asked for its boot program alone, and sent nothing to the RPC ports.
+  pub ports_kept : (commands : List Command) (done : List Done) → AllAllowed c (start c) (parts_of done) → AllCaused c 0 commands done → (boots : ℕ)
+      → (let me : declared.Addr = record { ip = c.client.ip; port = fetch_port boots } in AsksOnlyFor me (program_name c.arch c.client.ip) (run c (start c) (parts_of done)) × KeepsOffRpc me (run c (start c) (parts_of done)))
+  ports_kept commands done allowed caused boots =
+      let w = run c (start c) (parts_of done) in
+      let honest : IsHonest c w = honest_after [] 0 commands done (record { honest = honest_start c is; allowed = allowed }) caused in
+      (honest_asks c is w _ honest, honest_keeps_off c is w _ refl honest)

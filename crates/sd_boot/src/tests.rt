@@ -1,5 +1,6 @@
 //! The worked rows, from input to output and status.
 
+mod boots;
 mod images;
 mod texts;
 
@@ -75,7 +76,7 @@ const ROW_7: Row = Row {
 
 // A line outside the grammar.
 const ROW_8: Row = Row {
-    input: b"life 10\ntries 4\nwait 5\npages 1\nserver 080020000001 192.168.1.1 boss\nclient 080020010203 192.168.1.2 sparky example 192.168.1.1\naddr\nboot\n",
+    input: b"life 10\ntries 4\nwait 5\npages 1\nserver 080020000001 192.168.1.1 boss\nclient 080020010203 192.168.1.2 sparky example 192.168.1.1\naddr\nboots\n",
     status: 1,
     output: b"refused line 8\n",
 };

@@ -1,8 +1,7 @@
 -- What a sink gains piece by piece.
-use Rattle.std.proofs.Common.{◌≡◌, ℕ, ◌+◌, ◌≤◌, List, [], ◌∷◌, ◌++◌, length, take, drop, Option, Some, None, Result, Ok, Err, refl, sym, ◌∙◌, ap, subst, arith, append_assoc, take-append-drop}
+use Rattle.std.proofs.Common.{◌≡◌, ℕ, List, [], ◌++◌, take, drop, Option, Some, None, sym, ◌∙◌, ap, subst, append_assoc, take-append-drop}
 use Rattle.std.proofs.lemmas.List.{append-nil}
-use Rattle.sd_outside.specs.Streams.{Gains, Adds}
-use Rattle.sd_link.specs.Lawful.{IsFrontOf}
+use Rattle.sd_outside.specs.Streams.{Gains}
 use Rattle.sd_boot_chain.specs.Writing.{GainsFront}
 
 pub gains_nothing : (told : Option (List ℕ)) → Gains told told []

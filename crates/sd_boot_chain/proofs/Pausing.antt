@@ -4,12 +4,13 @@ use Rattle.sd_link.specs.Steps.{Step, History, world_of}
 use Rattle.sd_link.specs.declared.link.LinkError.{LinkError}
 use Rattle.sd_link.specs.Link.{GoesOn, Moves, Receives, IsNow}
 use Rattle.sd_link.proofs.Histories.{moves_weaker}
-use Rattle.sd_claims.specs.Tries.{flood_limit}
+use Rattle.sd_link.specs.Tries.{flood_limit}
 use Rattle.sd_boot_chain.specs.declared.pause.Pause.{Pause}
 use Rattle.sd_boot_chain.specs.declared.pause.Pause.TheVariants.{Over, Flood, Fault}
 use Rattle.sd_boot_chain.specs.Pause.{Passes, IsPause}
-use Rattle.sd_boot_chain.proofs.Settling.{settled-then}
-use Rattle.sd_boot_chain.proofs.Getting.{Gets, gets_nothing, gets_until, gets_error, short, waited, at_now}
+use Rattle.sd_rpc_retry.proofs.Settling.{settled-then}
+use Rattle.sd_rpc_retry.proofs.Getting.{short, waited, at_now}
+use Rattle.sd_boot_chain.proofs.Dropping.{Gets, gets_nothing, gets_until, gets_error}
 
 module _ (until count : ℕ) (a b : History) (xs ys : List Step) (goes : GoesOn a b xs) (q : Gets until count a xs) where
   pub passes_over : count < flood_limit → Receives until (Ok None) b ys → Passes until Over a (xs ++ ys)

@@ -1,11 +1,10 @@
 -- The text of one command, and the transcript of one command more.
-use Rattle.std.proofs.Common.{◌≡◌, ℕ, ◌+◌, List, [], ◌∷◌, ◌++◌, take, Option, Some, None, refl, sym, ◌∙◌, ap, subst, append_assoc}
+use Rattle.std.proofs.Common.{◌≡◌, ℕ, ◌+◌, ◌%◌, List, [], ◌∷◌, ◌++◌, take, Option, Some, None, refl, sym, ◌∙◌, ap, subst, append_assoc}
 use Rattle.std.specs.Prelude.{IfSome}
 use Rattle.std.proofs.lemmas.Grind.{flat_map-append}
 use Rattle.std.proofs.lemmas.List.{append-nil, append_cancel_left}
 use Rattle.sd_outside.specs.Streams.{Gains}
 use Rattle.sd_link.specs.declared.config.Config.{Config}
-use Rattle.sd_link.specs.declared.config.ClientConfig.{ClientConfig}
 use Rattle.sd_link.specs.declared.events.Events.{Events}
 use Rattle.sd_link.specs.Events.{Fates, fates_of}
 use Rattle.sd_link.specs.Config.{IsFor}
@@ -17,12 +16,12 @@ use Rattle.sd_link.proofs.Histories.{record-append, record-goes, run-append, wor
 use Rattle.sd_script.specs.declared.script.Command.{Command}
 use Rattle.sd_script.specs.declared.told.Told.{Told}
 use Rattle.sd_script.specs.Answers.{answer_line}
-use Rattle.sd_claims.specs.Causes.{IsCaused}
+use Rattle.sd_claims.specs.Causes.{IsCaused, boots_after}
 use Rattle.sd_claims.specs.Ending.{Ends, EndsAfter, AllEnd}
 use Rattle.sd_claims.specs.Transcript.{Done, transcript, AllCaused}
 use Rattle.sd_claims.specs.Session.{IsSession, IsCutSession, parts_of}
 use Rattle.sd_boot_chain.specs.Writing.{GainsFront}
-use Rattle.sd_boot_chain.specs.Step.{IsStep, IsAnswered}
+use Rattle.sd_boot_chain.specs.Step.{ClientView, IsStep, IsAnswered, IsDone}
 use Rattle.sd_boot_chain.proofs.Gaining.{gains_then, gains_nothing}
 
 -- what was drained is the text of the new entries
@@ -41,13 +40,13 @@ moves_to (Some old) None P Q q m = absurd m
 moves_to (Some old) (Some new) P Q q m = (m.0, m.1, (new, m.1, q, m.2))
 
 -- one command: its answer, the lines that were drained, and the answer line
-pub is_step : (old new : Option History) (config : ClientConfig) (command : Command) (answer : Told) (drained_old drained_new added text : List ℕ)
-    → Moves old new (λ h part. IsFor h.config config → IsAnswered command answer h part)
+pub is_step : (old new : Option History) (client : ClientView) (command : Command) (answer : Told) (next : ℕ) (drained_old drained_new added text : List ℕ)
+    → Moves old new (IsDone client command answer next)
     → IfSome new (λ h. drained_new ≡ record_text (whole_record h))
     → drained_new ≡ drained_old ++ added → text ≡ added ++ answer_line answer
-    → Moves old new (IsStep config command drained_old text)
-is_step old new config command answer drained_old drained_new added text moved whole drains is =
-    moves_weaker old new _ (IsStep config command drained_old text)
+    → Moves old new (IsStep client command drained_old text next)
+is_step old new client command answer next drained_old drained_new added text moved whole drains is =
+    moves_weaker old new _ (IsStep client command drained_old text next)
     (λ h part m. record {
       answer = answer;
       answered = m.3;
@@ -62,11 +61,20 @@ moves_from None (Some new) P Q q m = absurd m
 moves_from (Some old) None P Q q m = absurd m
 moves_from (Some old) (Some new) P Q q m = (m.0, m.1, (q, m.2))
 
-caused-push : (c : Config) (commands : List Command) (command : Command) (done : List Done) (d : Done) → AllCaused c commands done → IsCaused c command d.answer d.part → AllCaused c (commands ++ command ∷ []) (done ++ d ∷ [])
-caused-push c [] command [] d all one = (one, tt)
-caused-push c [] command (e ∷ es) d all one = absurd all
-caused-push c (k ∷ ks) command [] d all one = absurd all
-caused-push c (k ∷ ks) command (e ∷ es) d all one = (all.0, caused-push c ks command es d all.1 one)
+-- how many boots reached TFTP in these commands
+abbrev pub boots_done : ℕ → List Done → ℕ
+boots_done boots [] = boots
+boots_done boots (d ∷ ds) = boots_done (boots_after boots d.answer) ds
+
+boots-push : (boots : ℕ) (done : List Done) (d : Done) → boots_done boots (done ++ d ∷ []) ≡ boots_after (boots_done boots done) d.answer
+boots-push boots [] d = refl
+boots-push boots (e ∷ es) d = boots-push (boots_after boots e.answer) es d
+
+caused-push : (c : Config) (boots : ℕ) (commands : List Command) (command : Command) (done : List Done) (d : Done) → AllCaused c boots commands done → IsCaused c (boots_done boots done) command d.answer d.part → AllCaused c boots (commands ++ command ∷ []) (done ++ d ∷ [])
+caused-push c boots [] command [] d all one = (one, tt)
+caused-push c boots [] command (e ∷ es) d all one = absurd all
+caused-push c boots (k ∷ ks) command [] d all one = absurd all
+caused-push c boots (k ∷ ks) command (e ∷ es) d all one = (all.0, caused-push c (boots_after boots e.answer) ks command es d all.1 one)
 
 -- one command's text
 abbrev pub text_of : Config → World → Done → List ℕ
@@ -112,31 +120,85 @@ session_ends a b xs ys goes done answer cut all one =
     (subst (λ (e : Events). Ends a.config (fates_of e) (world_of b) (whole_record b) answer ys) goes.events
     (subst (λ (c : Config). Ends c (fates_of b.events) (world_of b) (whole_record b) answer ys) goes.config one)))))
 
+-- a session so far, and the client's count of boots
+pub record SessionAt (commands : List Command) (before after : Option (List ℕ)) (count : ℕ) (old : History) (part : List Step) : Type 0 where
+  pub session : IsSession commands before after old part
+  pub counted : count ≡ boots_done 0 session.done % 32768
+
 pub session_none : (told : Option (List ℕ)) (h : History) → IsSession [] told told h []
 session_none told h = record { done = []; cut = refl; caused = tt; ended = tt; text = gains_nothing told }
 
-pub session_more : (config : ClientConfig) (commands : List Command) (command : Command) (before mid after : Option (List ℕ)) (drained text : List ℕ) (a b : History) (xs ys : List Step)
-    → GoesOn a b xs → IsFor a.config config → IsSession commands before mid a xs → drained ≡ record_text (whole_record b) → IsStep config command drained text b ys → Gains mid after text
-    → IsSession (commands ++ command ∷ []) before after a (xs ++ ys)
-session_more config commands command before mid after drained text a b xs ys goes is_for s was t gained =
-    let d : Done = record { part = ys; answer = t.answer } in
-    let same : b.config ≡ a.config = goes.config in
-    let is_for_b : IsFor b.config config = subst (λ (c : Config). IsFor c config) (sym same) is_for in
-    let answered = t.answered is_for_b in
-    let caused : IsCaused a.config command t.answer ys = subst (λ (c : Config). IsCaused c command t.answer ys) same answered.caused in
-    let here : world_of b ≡ run a.config (world_of a) (parts_of s.done) = world-goes a b xs goes ∙ ap (λ (l : List Step). run a.config (world_of a) l) s.cut in
-    let shown : text ≡ text_of a.config (run a.config (world_of a) (parts_of s.done)) d =
-    t.shown was ∙ ap (λ (c : Config). text_of c (world_of b) d) same ∙ ap (λ (w : World). text_of a.config w d) here in
-    record {
-      done = s.done ++ d ∷ [];
-      cut = ap (λ (l : List Step). l ++ ys) s.cut ∙ sym (parts-push s.done d);
-      caused = caused-push a.config commands command s.done d s.caused caused;
-      ended = session_ends a b xs ys goes s.done t.answer s.cut s.ended answered.ended;
-      text =
-          subst (λ (l : List ℕ). Gains before after l) (sym (transcript-push a.config (world_of a) s.done d))
-          (gains_then before mid after (transcript a.config (world_of a) s.done) (text_of a.config (run a.config (world_of a) (parts_of s.done)) d) s.text
-          (subst (λ (l : List ℕ). Gains mid after l) shown gained));
-    }
+pub session_first : (told : Option (List ℕ)) (count : ℕ) (h : History) → count ≡ 0 → SessionAt [] told told count h []
+unfolding session_none
+session_first told count h fresh = record { session = session_none told h; counted = fresh }
+
+-- a command more, with its cause and its text
+module _ (client : ClientView) (commands : List Command) (command : Command) (before mid : Option (List ℕ)) (drained text : List ℕ) (next : ℕ) (a b : History) (xs ys : List Step)
+    (goes : GoesOn a b xs) (is_for : IsFor a.config client.config) (s : SessionAt commands before mid client.boots a xs) (was : drained ≡ record_text (whole_record b)) (t : IsStep client command drained text next b ys) where
+  last : Done
+  last = record { part = ys; answer = t.answer }
+
+  answered : IsAnswered (boots_done 0 s.session.done) command t.answer b ys × (next ≡ boots_after (boots_done 0 s.session.done) t.answer % 32768)
+  answered = t.answered (subst (λ (c : Config). IsFor c client.config) (sym goes.config) is_for) (boots_done 0 s.session.done) s.counted
+
+  so_far : List ℕ
+  so_far = transcript a.config (world_of a) s.session.done
+
+  line : List ℕ
+  line = text_of a.config (run a.config (world_of a) (parts_of s.session.done)) last
+
+  shown : text ≡ line
+  unfolding last line
+  shown =
+      t.shown was
+      ∙ ap (λ (c : Config). text_of c (world_of b) last) goes.config
+      ∙ ap (λ (w : World). text_of a.config w last) (world-goes a b xs goes ∙ ap (λ (l : List Step). run a.config (world_of a) l) s.session.cut)
+
+  caused : AllCaused a.config 0 (commands ++ command ∷ []) (s.session.done ++ last ∷ [])
+  unfolding last
+  caused =
+      caused-push a.config 0 commands command s.session.done last s.session.caused
+      (subst (λ (c : Config). IsCaused c (boots_done 0 s.session.done) command t.answer ys) goes.config answered.0.caused)
+
+  ended : AllEnd a.config (fates_of a.events) (world_of a) (whole_record a) (s.session.done ++ last ∷ [])
+  unfolding last
+  ended = session_ends a b xs ys goes s.session.done t.answer s.session.cut s.session.ended answered.0.ended
+
+  cut : xs ++ ys ≡ parts_of (s.session.done ++ last ∷ [])
+  unfolding last
+  cut = ap (λ (l : List Step). l ++ ys) s.session.cut ∙ sym (parts-push s.session.done last)
+
+  whole : transcript a.config (world_of a) (s.session.done ++ last ∷ []) ≡ so_far ++ line
+  unfolding last so_far line
+  whole = transcript-push a.config (world_of a) s.session.done last
+
+  pub session_more : (after : Option (List ℕ)) → Gains mid after text → SessionAt (commands ++ command ∷ []) before after next a (xs ++ ys)
+  unfolding last so_far
+  session_more after gained = record {
+    session = record {
+      done = s.session.done ++ last ∷ [];
+      cut = cut;
+      caused = caused;
+      ended = ended;
+      text = subst (λ (l : List ℕ). Gains before after l) (sym whole) (gains_then before mid after so_far line s.session.text (subst (λ (l : List ℕ). Gains mid after l) shown gained));
+    };
+    counted = answered.1 ∙ ap (λ (n : ℕ). n % 32768) (sym (boots-push 0 s.session.done last));
+  }
+
+  -- a command whose text was written in part
+  pub session_stops : (all : List Command) (n : ℕ) (after : Option (List ℕ)) → take (n + 1) all ≡ commands ++ command ∷ [] → GainsFront mid after text → IsCutSession all before after a (xs ++ ys)
+  unfolding last so_far
+  session_stops all n after more gained = record {
+    count = n + 1;
+    done = s.session.done ++ last ∷ [];
+    more = [];
+    cut = cut ∙ sym (append-nil (parts_of (s.session.done ++ last ∷ [])));
+    caused = subst (λ (l : List Command). AllCaused a.config 0 l (s.session.done ++ last ∷ [])) (sym more) caused;
+    ended = ended;
+    front = so_far ++ gained.0;
+    short = (gained.1.0, append_assoc so_far gained.0 gained.1.0 ∙ ap (λ (l : List ℕ). so_far ++ l) (gained.1.1 ∙ shown) ∙ sym whole);
+    text = gains_then before mid after so_far gained.0 s.session.text gained.2;
+  }
 
 -- ---- a session that ends early
 
@@ -153,32 +215,3 @@ session_cut commands n before mid a xs ys s = record {
   short = ([], append-nil (transcript a.config (world_of a) s.done));
   text = s.text;
 }
-
--- a command whose text was written in part
-pub session_stops : (config : ClientConfig) (commands : List Command) (n : ℕ) (command : Command) (before mid after : Option (List ℕ)) (drained text : List ℕ) (a b : History) (xs ys : List Step)
-    → take (n + 1) commands ≡ take n commands ++ command ∷ []
-    → GoesOn a b xs → IsFor a.config config → IsSession (take n commands) before mid a xs → drained ≡ record_text (whole_record b) → IsStep config command drained text b ys → GainsFront mid after text
-    → IsCutSession commands before after a (xs ++ ys)
-session_stops config commands n command before mid after drained text a b xs ys more goes is_for s was t gained =
-    let d : Done = record { part = ys; answer = t.answer } in
-    let same : b.config ≡ a.config = goes.config in
-    let is_for_b : IsFor b.config config = subst (λ (c : Config). IsFor c config) (sym same) is_for in
-    let answered = t.answered is_for_b in
-    let caused : IsCaused a.config command t.answer ys = subst (λ (c : Config). IsCaused c command t.answer ys) same answered.caused in
-    let here : world_of b ≡ run a.config (world_of a) (parts_of s.done) = world-goes a b xs goes ∙ ap (λ (l : List Step). run a.config (world_of a) l) s.cut in
-    let last = text_of a.config (run a.config (world_of a) (parts_of s.done)) d in
-    let shown : text ≡ last = t.shown was ∙ ap (λ (c : Config). text_of c (world_of b) d) same ∙ ap (λ (w : World). text_of a.config w d) here in
-    let so_far = transcript a.config (world_of a) s.done in
-    let whole : (so_far ++ gained.0) ++ gained.1.0 ≡ transcript a.config (world_of a) (s.done ++ d ∷ []) =
-    append_assoc so_far gained.0 gained.1.0 ∙ ap (λ (l : List ℕ). so_far ++ l) (gained.1.1 ∙ shown) ∙ sym (transcript-push a.config (world_of a) s.done d) in
-    record {
-      count = n + 1;
-      done = s.done ++ d ∷ [];
-      more = [];
-      cut = ap (λ (l : List Step). l ++ ys) s.cut ∙ sym (parts-push s.done d) ∙ sym (append-nil (parts_of (s.done ++ d ∷ [])));
-      caused = subst (λ (l : List Command). AllCaused a.config l (s.done ++ d ∷ [])) (sym more) (caused-push a.config (take n commands) command s.done d s.caused caused);
-      ended = session_ends a b xs ys goes s.done t.answer s.cut s.ended answered.ended;
-      front = so_far ++ gained.0;
-      short = (gained.1.0, whole);
-      text = gains_then before mid after so_far gained.0 s.text gained.2;
-    }

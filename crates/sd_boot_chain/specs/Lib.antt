@@ -1,4 +1,7 @@
-pub mod Client
+pub mod Durations
+pub mod Address
+pub mod Fetch
 pub mod Pause
 pub mod Step
+pub mod Boot
 pub mod Writing

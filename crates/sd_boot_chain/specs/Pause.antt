@@ -3,9 +3,9 @@ use Rattle.std.specs.Prelude.{◌≡◌, ℕ, ◌<◌, ◌≤◌, List, [], leng
 use Rattle.sd_link.specs.Steps.{Step, History, world_of, run}
 use Rattle.sd_link.specs.Parts.{sends_in, got_in}
 use Rattle.sd_link.specs.Link.{IsSettledBy}
-use Rattle.sd_claims.specs.Tries.{flood_limit}
+use Rattle.sd_link.specs.Tries.{flood_limit}
 use Rattle.sd_claims.specs.Waiting.{Waited, WaitFlooded}
-use Rattle.sd_boot_chain.specs.Client.{StaysBefore}
+use Rattle.sd_rpc_retry.specs.Lasting.{StaysBefore}
 use Rattle.sd_boot_chain.specs.declared.pause.Pause.{Pause}
 use Rattle.sd_boot_chain.specs.declared.pause.Pause.TheVariants.{Over, Flood, Fault}
 

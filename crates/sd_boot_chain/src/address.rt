@@ -1,34 +1,82 @@
 //! How the client asks for its own address (RFC 903).
-ghost use Rattle.std.specs.Prelude.{◌≡◌, ◌≤◌, IfOk, Ok};
+ghost use Rattle.std.specs.Prelude.{◌≡◌, ◌≤◌, IfOk};
+ghost use Rattle.std.specs.Option.{option_map};
 ghost use Rattle.sd_outside.specs.Causes.{Rose};
 ghost use Rattle.sd_link.specs.Config.{IsFor, IsClientConfig};
 ghost use Rattle.sd_link.specs.Link.{Moves};
-ghost use Rattle.sd_claims.specs.Rarp.{told_address, rarp_request};
-ghost use Rattle.sd_boot_chain.specs.Step.{IsFault, IsAnswered};
-ghost use Rattle.sd_boot_chain.specs.Client.{Hears, Tried, Lasts, StaysBefore, most_ticks};
+ghost use Rattle.sd_claims.specs.Rarp.{learned_from, rarp_request, rarp_hearing};
+ghost use Rattle.sd_rpc_retry.specs.Lasting.{Lasts, most_asking_ticks};
+ghost use Rattle.sd_rpc_retry.specs.Asking.{IsAsked, IsAskedFault};
+ghost use Rattle.sd_claims.specs.Causes.{IsAddrCaused};
+ghost use Rattle.sd_claims.specs.Ending.{EndsAfter};
+ghost use Rattle.sd_boot_chain.specs.Step.{IsFault};
+ghost use Rattle.sd_boot_chain.specs.Address.{shows_learned};
 
-use sd_link::{ClientConfig, Link, LinkError, Stage};
+use sd_link::{ClientConfig, Link, Stage};
 use sd_outside::{ByteList, Mac, NoMemory, Packet};
 use sd_rarp::{RarpFrame, read_frame, write_frame};
-use sd_script::{Command, Told};
+use sd_rpc_retry::{Asked, Listener, Look, ask};
+use sd_script::Told;
 use std::alloc::Global;
 
-/// So many packets without a match end a try.
-pub(crate) const FLOOD: u32 = 4096;
+/// What a reply tells.
+#[derive(Clone, Copy)]
+pub(crate) struct Learned {
+    /// One's own address.
+    pub address: u32,
+    /// The address of the responder.
+    pub responder: u32,
+}
 
-/// The address that a packet tells the one with this hardware address.
-fn told_address(mac: Mac, packet: &Packet) -> Option<u32>
-    ensures { result ≡ told_address mac packet.now }
+/// Who waits for a reply to this hardware address.
+#[derive(Drop)]
+struct AddressListener {
+    mac: Mac,
+}
+
+impl Listener for AddressListener {
+    ghost use Rattle.sd_claims.specs.Rarp.{Learned, rarp_hearing};
+    ghost use Rattle.sd_boot_chain.specs.Address.{shows_learned};
+
+    type Found = Learned;
+
+    ghost Seen = { Learned };
+
+    ghost hearing = { λ listener. rarp_hearing listener.mac };
+
+    ghost shows = { λ listener found. shows_learned found };
+
+    fn look(&mut self, packet: &Packet) -> Result<Look<Learned>, NoMemory> {
+        match learned_from(self.mac, packet) {
+            Some(learned) => Ok(Look::Match(learned)),
+            None => Ok(Look::Other),
+        }
+    }
+}
+
+/// What a packet tells the one with this hardware address.
+fn learned_from(mac: Mac, packet: &Packet) -> Option<Learned>
+    ensures { option_map shows_learned result ≡ learned_from mac packet.now }
 {
     match packet {
         Packet::Frame(bytes) => match read_frame(bytes.as_slice()) {
             Ok(
                 RarpFrame::Reply {
+                    sender_ip,
                     target,
                     target_ip,
                     ..
                 },
-            ) => { if target == mac { Some(target_ip) } else { None } }
+            ) => {
+                if target == mac {
+                    Some(Learned {
+                        address: target_ip,
+                        responder: sender_ip,
+                    })
+                } else {
+                    None
+                }
+            }
             Ok(RarpFrame::Request { .. }) => None,
             Err(_) => None,
         },
@@ -49,85 +97,48 @@ fn rarp_request(alloc: Global, mac: Mac) -> Result<Packet, NoMemory>
     Ok(Packet::Frame(ByteList::from_slice(alloc, &frame)?))
 }
 
-/// What came of one try.
-#[derive(Clone, Copy)]
-enum Heard {
-    /// A reply told this address.
-    Address(u32),
-    /// The time passed.
-    Nothing,
-    /// So many packets came that the try ends.
-    Flood,
-    /// The link failed.
-    Fault,
-}
-
-/// Gets packets until one tells the address, or this tick is reached.
-fn listen<L: Link>(link: &mut L, mac: Mac, until: u64) -> Result<Heard, NoMemory>
-    ensures told { IfOk result (λ heard. Moves (L.told link.old) (L.told link.new) (Hears mac until heard)) }
-    ensures goes { Moves (L.told link.old) (L.told link.new) (StaysBefore until) }
-    ensures fault { IfOk result (λ heard. heard ≡ Heard.Fault → Rose (L.faults link.old) (L.faults link.new)) }
-    ensures faults { L.faults link.old ≤ L.faults link.new }
-    ensures drained { L.drained link.new ≡ L.drained link.old }
-{
-    for count in 0..FLOOD {
-        match link.recv(until) {
-            Ok(Some(packet)) => {
-                if let Some(ip) = told_address(mac, &packet) {
-                    return Ok(Heard::Address(ip));
-                }
-            }
-            Ok(None) => return Ok(Heard::Nothing),
-            Err(LinkError::Failed) => return Ok(Heard::Fault),
-            Err(LinkError::NoMemory) => return Err(NoMemory),
-        }
-    }
-    Ok(Heard::Flood)
-}
-
-/// One try: sends the request, and listens for so many ticks.
-fn ask<L: Link>(link: &mut L, request: &Packet, mac: Mac, wait: u64) -> Result<Heard, NoMemory>
-    requires { wait ≤ 1000 }
-    ensures told { IfOk result (λ heard. Moves (L.told link.old) (L.told link.new) (Tried request.now mac wait heard)) }
-    ensures goes { Lasts 1000 (L.told link.old) (L.told link.new) }
-    ensures fault { IfOk result (λ heard. heard ≡ Heard.Fault → Rose (L.faults link.old) (L.faults link.new)) }
-    ensures faults { L.faults link.old ≤ L.faults link.new }
-    ensures drained { L.drained link.new ≡ L.drained link.old }
-{
-    match link.send(request) {
-        Ok(()) => {
-            let until = link.now() + wait;
-            listen(link, mac, until)
-        }
-        Err(LinkError::Failed) => Ok(Heard::Fault),
-        Err(LinkError::NoMemory) => Err(NoMemory),
-    }
-}
-
 /// Asks for one's own address.
+pub(crate) fn learn<L: Link>(
+    alloc: Global,
+    link: &mut L,
+    config: &ClientConfig,
+) -> Result<Asked<Learned>, NoMemory>
+    requires { IsClientConfig config.now }
+    ensures told { IfOk result (λ asked. Moves (L.told link.old) (L.told link.new)
+        (IsAsked (rarp_request config.now.mac) (rarp_hearing config.now.mac) shows_learned config.now.tries config.now.wait asked)) }
+    ensures lasts { Lasts most_asking_ticks (L.told link.old) (L.told link.new) }
+    ensures fault { IfOk result (λ asked. IsAskedFault asked → Rose (L.faults link.old) (L.faults link.new)) }
+    ensures faults { L.faults link.old ≤ L.faults link.new }
+    ensures drained { L.drained link.new ≡ L.drained link.old }
+{
+    let request = rarp_request(alloc, config.mac)?;
+    let mut listener = AddressListener { mac: config.mac };
+    let asked = ask(link, &request, &mut listener, config.tries, config.wait)?;
+    Ok(asked)
+}
+
+/// Asks for one's own address, and answers the command.
 pub(crate) fn own_address<L: Link>(
     alloc: Global,
     link: &mut L,
     config: &ClientConfig,
 ) -> Result<Told, NoMemory>
     requires { IsClientConfig config.now }
-    ensures goes { Lasts most_ticks (L.told link.old) (L.told link.new) }
+    ensures lasts { Lasts most_asking_ticks (L.told link.old) (L.told link.new) }
     // Over a link that tells, and whose count of faults didn't rise, the answer is earned or caused by what happened,
     // and the command ends as its answer says.
     ensures caused { (Rose (L.faults link.old) (L.faults link.new) → ⊥) → IfOk result (λ answer.
-        Moves (L.told link.old) (L.told link.new) (λ old part. IsFor old.config config.now → IsAnswered Command.Addr answer old part)) }
+        Moves (L.told link.old) (L.told link.new) (λ old part. IsFor old.config config.now → IsAddrCaused old.config answer part × EndsAfter old answer part)) }
     ensures fault { IfOk result (λ answer. IsFault answer → Rose (L.faults link.old) (L.faults link.new)) }
     ensures faults { L.faults link.old ≤ L.faults link.new }
     ensures drained { L.drained link.new ≡ L.drained link.old }
 {
-    let request = rarp_request(alloc, config.mac)?;
-    for count in 0..config.tries {
-        match ask(link, &request, config.mac, config.wait)? {
-            Heard::Address(ip) => return Ok(Told::AddrOk { ip }),
-            Heard::Nothing => {}
-            Heard::Flood => return Ok(Told::AddrFlood { step: Stage::Rarp }),
-            Heard::Fault => return Ok(Told::AddrLinkFault),
-        }
+    match learn(alloc, link, config)? {
+        Asked::Answer(learned) => Ok(Told::AddrOk {
+            ip: learned.address,
+        }),
+        Asked::Timeout => Ok(Told::AddrTimeout),
+        Asked::Flood => Ok(Told::AddrFlood { step: Stage::Rarp }),
+        Asked::Fault => Ok(Told::AddrLinkFault),
     }
-    Ok(Told::AddrTimeout)
 }

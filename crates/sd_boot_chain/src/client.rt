@@ -1,55 +1,132 @@
 //! The diskless client.
-ghost use Rattle.std.specs.Prelude.{◌≡◌, ◌≤◌, IfOk};
+ghost use Rattle.std.specs.Prelude.{◌≡◌, ◌≤◌, ◌+◌, ◌%◌, IfOk};
 ghost use Rattle.sd_outside.specs.Causes.{Rose};
 ghost use Rattle.sd_link.specs.Config.{IsFor, IsClientConfig};
 ghost use Rattle.sd_link.specs.Link.{Moves};
 ghost use Rattle.sd_script.specs.Rules.{IsCommand};
-ghost use Rattle.sd_boot_chain.specs.Client.{Lasts, most_ticks};
-ghost use Rattle.sd_boot_chain.specs.Step.{IsFault, IsAnswered};
+ghost use Rattle.sd_claims.specs.Causes.{IsAddrCaused};
+ghost use Rattle.sd_claims.specs.Ending.{EndsAfter};
+ghost use Rattle.sd_claims.specs.Rarp.{rarp_request, rarp_hearing};
+ghost use Rattle.sd_rpc_retry.specs.Lasting.{Lasts, most_asking_ticks};
+ghost use Rattle.sd_rpc_retry.specs.Asking.{IsAsked, IsAskedFault};
+ghost use Rattle.sd_boot_chain.specs.Address.{shows_learned};
+ghost use Rattle.sd_boot_chain.specs.Boot.{task_of};
+ghost use Rattle.sd_boot_chain.specs.Durations.{most_ticks};
+ghost use Rattle.sd_boot_chain.specs.Fetch.{IsFetch, fetch_of};
+ghost use Rattle.sd_boot_chain.specs.Step.{IsFault, IsDone};
 
-use crate::address::own_address;
+use crate::address::{Learned, learn, own_address};
+use crate::boot::program_name;
+use crate::fetch::Task;
 use crate::pause::wait;
 use sd_link::{ClientConfig, Link};
-use sd_outside::NoMemory;
+use sd_outside::{Addr, NoMemory};
+use sd_rpc_retry::Asked;
 use sd_script::{Command, Told};
 use std::alloc::Global;
 use std::marker::Model;
 
-/// A diskless client, seen as what it was given.
+/// The first port from which a boot program is fetched, and how many there are.
+const FIRST_PORT: u16 = 2048;
+
+const PORTS: u16 = 32_768;
+
+/// A diskless client, seen as what it was given and how many of its boots reached TFTP.
 #[derive(Drop)]
 pub struct Client {
     alloc: Global,
     config: ClientConfig,
+    /// How many boots reached TFTP, modulo 32,768: each fetches from a port of its own.
+    boots: u16,
 }
 
 impl Model for Client {
-    ghost use Rattle.sd_link.specs.declared.config.ClientConfig.{ClientConfig};
+    ghost use Rattle.std.specs.Prelude.{◌<◌};
     ghost use Rattle.sd_link.specs.Config.{IsClientConfig};
+    ghost use Rattle.sd_boot_chain.specs.Step.{ClientView};
 
-    ghost Value = { ClientConfig };
+    ghost Value = { ClientView };
 
-    ghost view = { λ client. client.config };
+    ghost view = { λ client. record { config = client.config; boots = client.boots } };
 
-    ghost invariant = { λ client. IsClientConfig client.config };
+    ghost invariant = { λ client. IsClientConfig client.config × (client.boots < 32768) };
 }
 
 impl Client {
     /// A client that was just switched on.
     pub fn new(alloc: Global, config: ClientConfig) -> Result<Client, NoMemory>
         requires { IsClientConfig config }
-        ensures { IfOk result (λ client. client ≡ config) }
+        ensures { IfOk result (λ client. client ≡ record { config = config; boots = 0 }) }
     {
-        Ok(Client { alloc, config })
+        Ok(Client {
+            alloc,
+            config,
+            boots: 0,
+        })
+    }
+
+    pub(crate) fn alloc(&self) -> Global {
+        self.alloc
+    }
+
+    /// Asks for one's own address.
+    pub(crate) fn learn_address<L: Link>(&self, link: &mut L) -> Result<Asked<Learned>, NoMemory>
+        ensures told { IfOk result (λ asked. Moves (L.told link.old) (L.told link.new)
+            (IsAsked (rarp_request self.now.config.mac) (rarp_hearing self.now.config.mac) shows_learned self.now.config.tries self.now.config.wait asked)) }
+        ensures lasts { Lasts most_asking_ticks (L.told link.old) (L.told link.new) }
+        ensures fault { IfOk result (λ asked. IsAskedFault asked → Rose (L.faults link.old) (L.faults link.new)) }
+        ensures faults { L.faults link.old ≤ L.faults link.new }
+        ensures drained { L.drained link.new ≡ L.drained link.old }
+    {
+        learn(self.alloc, link, &self.config)
+    }
+
+    /// Asks for one's own address, and answers the command.
+    fn answer_address<L: Link>(&self, link: &mut L) -> Result<Told, NoMemory>
+        ensures lasts { Lasts most_asking_ticks (L.told link.old) (L.told link.new) }
+        ensures caused { (Rose (L.faults link.old) (L.faults link.new) → ⊥) → IfOk result (λ answer.
+            Moves (L.told link.old) (L.told link.new) (λ old part. IsFor old.config self.now.config → IsAddrCaused old.config answer part × EndsAfter old answer part)) }
+        ensures fault { IfOk result (λ answer. IsFault answer → Rose (L.faults link.old) (L.faults link.new)) }
+        ensures faults { L.faults link.old ≤ L.faults link.new }
+        ensures drained { L.drained link.new ≡ L.drained link.old }
+    {
+        own_address(self.alloc, link, &self.config)
+    }
+
+    /// The next fetch of the boot program.
+    pub(crate) fn program_task(&self, learned: Learned) -> Result<Task, NoMemory>
+        ensures task { IfOk result (λ task. fetch_of task ≡ task_of self.now (shows_learned learned)) }
+        ensures rules { IfOk result IsFetch }
+    {
+        let name = program_name(self.alloc, self.config.arch.as_slice(), learned.address)?;
+        Ok(Task {
+            me: Addr {
+                ip: learned.address,
+                port: FIRST_PORT + self.boots,
+            },
+            server: learned.responder,
+            name,
+            tries: self.config.tries,
+            wait: self.config.wait,
+        })
+    }
+
+    /// One more boot reaches TFTP.
+    pub(crate) fn count_boot(&mut self)
+        ensures same { self.new.config ≡ self.old.config }
+        ensures counted { self.new.boots ≡ (self.old.boots + 1) % 32768 }
+    {
+        self.boots = (self.boots + 1) % PORTS;
     }
 
     /// Does one command over a link, and answers it.
     pub fn step<L: Link>(&mut self, link: &mut L, command: &Command) -> Result<Told, NoMemory>
         requires { IsCommand command.now }
-        ensures same { self.new ≡ self.old }
+        ensures same { self.new.config ≡ self.old.config }
         // Over a link that tells, and whose count of faults didn't rise, the answer is earned or caused by what happened,
         // and the command ends as its answer says.
         ensures caused { (Rose (L.faults link.old) (L.faults link.new) → ⊥) → IfOk result (λ answer.
-            Moves (L.told link.old) (L.told link.new) (λ old part. IsFor old.config self.old → IsAnswered command.now answer old part)) }
+            Moves (L.told link.old) (L.told link.new) (IsDone self.old command.now answer self.new.boots)) }
         // Whatever comes of it, a link that tells goes on telling.
         ensures lasts { Lasts most_ticks (L.told link.old) (L.told link.new) }
         ensures fault { IfOk result (λ answer. IsFault answer → Rose (L.faults link.old) (L.faults link.new)) }
@@ -57,7 +134,8 @@ impl Client {
         ensures drained { L.drained link.new ≡ L.drained link.old }
     {
         match command {
-            Command::Addr => own_address(self.alloc, link, &self.config),
+            Command::Addr => self.answer_address(link),
+            Command::Boot => self.boot(link),
             Command::Wait { ticks } => wait(link, *ticks),
         }
     }

@@ -5,7 +5,9 @@
 #![tactic(auto)]
 
 mod address;
+mod boot;
 mod client;
+mod fetch;
 mod pause;
 mod transcript;
 mod writing;
@@ -13,3 +15,6 @@ mod writing;
 pub use client::Client;
 pub use transcript::{SessionError, session};
 pub use writing::write_all;
+
+#[cfg(test)]
+mod tests;

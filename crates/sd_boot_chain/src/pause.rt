@@ -2,14 +2,16 @@
 ghost use Rattle.std.specs.Prelude.{◌≡◌, ◌≤◌, IfOk, Ok};
 ghost use Rattle.sd_outside.specs.Causes.{Rose};
 ghost use Rattle.sd_link.specs.Link.{Moves};
-ghost use Rattle.sd_boot_chain.specs.Step.{IsFault, IsAnswered};
-ghost use Rattle.sd_boot_chain.specs.Client.{Lasts, StaysBefore, most_ticks};
+ghost use Rattle.sd_claims.specs.Causes.{IsWaitCaused};
+ghost use Rattle.sd_claims.specs.Ending.{EndsAfter};
+ghost use Rattle.sd_boot_chain.specs.Step.{IsFault};
+ghost use Rattle.sd_rpc_retry.specs.Lasting.{Lasts, StaysBefore};
 ghost use Rattle.sd_boot_chain.specs.Pause.{Passes, IsPause};
 
-use crate::address::FLOOD;
 use sd_link::{Link, LinkError};
 use sd_outside::NoMemory;
-use sd_script::{Command, Told};
+use sd_rpc_retry::FLOOD;
+use sd_script::Told;
 
 /// How a pause ended.
 #[derive(Clone, Copy)]
@@ -45,7 +47,7 @@ fn drop_until<L: Link>(link: &mut L, until: u64) -> Result<Pause, NoMemory>
 fn pass_ticks<L: Link>(link: &mut L, ticks: u64) -> Result<Pause, NoMemory>
     requires { ticks ≤ 100000 }
     ensures told { IfOk result (λ pause. Moves (L.told link.old) (L.told link.new) (IsPause ticks pause)) }
-    ensures goes { Lasts most_ticks (L.told link.old) (L.told link.new) }
+    ensures goes { Lasts 100000 (L.told link.old) (L.told link.new) }
     ensures fault { IfOk result (λ pause. pause ≡ Pause.Fault → Rose (L.faults link.old) (L.faults link.new)) }
     ensures faults { L.faults link.old ≤ L.faults link.new }
     ensures drained { L.drained link.new ≡ L.drained link.old }
@@ -57,11 +59,11 @@ fn pass_ticks<L: Link>(link: &mut L, ticks: u64) -> Result<Pause, NoMemory>
 /// Lets so many ticks pass, and answers how that went.
 pub(crate) fn wait<L: Link>(link: &mut L, ticks: u64) -> Result<Told, NoMemory>
     requires { ticks ≤ 100000 }
-    ensures goes { Lasts most_ticks (L.told link.old) (L.told link.new) }
+    ensures goes { Lasts 100000 (L.told link.old) (L.told link.new) }
     // Over a link that tells, and whose count of faults didn't rise, the answer is earned or caused by what happened,
     // and the command ends as its answer says.
     ensures caused { (Rose (L.faults link.old) (L.faults link.new) → ⊥) → IfOk result (λ answer.
-        Moves (L.told link.old) (L.told link.new) (λ old part. IsAnswered (Command.Wait ticks) answer old part)) }
+        Moves (L.told link.old) (L.told link.new) (λ old part. IsWaitCaused ticks answer part × EndsAfter old answer part)) }
     ensures fault { IfOk result (λ answer. IsFault answer → Rose (L.faults link.old) (L.faults link.new)) }
     ensures faults { L.faults link.old ≤ L.faults link.new }
     ensures drained { L.drained link.new ≡ L.drained link.old }

@@ -9,7 +9,8 @@ ghost use Rattle.sd_link.specs.Link.{Moves};
 ghost use Rattle.sd_script.specs.Limits.{command_limit};
 ghost use Rattle.sd_script.specs.Rules.{IsCommand};
 ghost use Rattle.sd_claims.specs.Session.{IsSession, IsCutSession};
-ghost use Rattle.sd_boot_chain.specs.Client.{Lasts, most_ticks, most_session_ticks};
+ghost use Rattle.sd_rpc_retry.specs.Lasting.{Lasts};
+ghost use Rattle.sd_boot_chain.specs.Durations.{most_ticks, most_session_ticks};
 ghost use Rattle.sd_boot_chain.specs.Step.{IsStep};
 
 use crate::client::Client;
@@ -48,11 +49,11 @@ fn text_of<L: Link>(
 ) -> Result<ByteList, NoMemory>
     requires { IsCommand command.now }
     ensures done { (Rose (L.faults link.old) (L.faults link.new) → ⊥) → IfOk result (λ text.
-        Moves (L.told link.old) (L.told link.new) (IsStep client.old command.now (L.drained link.old) text)) }
+        Moves (L.told link.old) (L.told link.new) (IsStep client.old command.now (L.drained link.old) text client.new.boots)) }
     ensures lasts { Lasts most_ticks (L.told link.old) (L.told link.new) }
     ensures drained { OnOk result (IfSome (L.told link.new) (λ h. L.drained link.new ≡ record_text (whole_record h))) }
     ensures faults { L.faults link.old ≤ L.faults link.new }
-    ensures same { client.new ≡ client.old }
+    ensures same { client.new.config ≡ client.old.config }
 {
     let answer = client.step(link, command)?;
     let mut text = ByteList::empty(alloc);
@@ -72,11 +73,12 @@ fn do_all<L: Link, K: Sink>(
     requires commands { All IsCommand commands.now }
     requires few { length commands.now ≤ command_limit }
     requires drained { IfSome (L.told link.old) (λ h. L.drained link.old ≡ record_text (whole_record h)) }
+    requires fresh { client.old.boots ≡ 0 }
     ensures done { (Rose (L.faults link.old) (L.faults link.new) → ⊥) → OnOk result (
-        Moves (L.told link.old) (L.told link.new) (λ old part. IsFor old.config client.old →
+        Moves (L.told link.old) (L.told link.new) (λ old part. IsFor old.config client.old.config →
         IsSession commands.now (K.written sink.old) (K.written sink.new) old part)) }
     ensures cut { (Rose (L.faults link.old) (L.faults link.new) → ⊥) → OnErr result (
-        Moves (L.told link.old) (L.told link.new) (λ old part. IsFor old.config client.old →
+        Moves (L.told link.old) (L.told link.new) (λ old part. IsFor old.config client.old.config →
         IsCutSession commands.now (K.written sink.old) (K.written sink.new) old part)) }
     ensures lasts { Lasts most_session_ticks (L.told link.old) (L.told link.new) }
     ensures fault { IsErrOf result SessionError.SinkFault → Rose (K.faults sink.old) (K.faults sink.new) }

@@ -1,5 +1,5 @@
 -- What `replay` writes.
-use Rattle.std.specs.Prelude.{◌≡◌, ◌⊎◌, ◌≤◌, ◌*◌, ℕ, List, [], ◌∷◌, ◌++◌, map, take, codes, Option, Some, None}
+use Rattle.std.specs.Prelude.{◌≡◌, ◌≢◌, ◌⊎◌, ◌≤◌, ◌*◌, ℕ, List, [], ◌∷◌, ◌++◌, map, take, codes, Option, Some, None}
 use Rattle.std.specs.List.{AllByRecursion}
 use Rattle.std.specs.Fmt.{decimal}
 use Rattle.sd_outside.specs.Streams.{Gains}
@@ -7,17 +7,19 @@ use Rattle.sd_link.specs.World.{start}
 use Rattle.sd_link.specs.Events.{fates_of}
 use Rattle.sd_link.specs.Lawful.{IsLawful, IsFrontOf}
 use Rattle.sd_script.specs.declared.script.Command.{Command}
+use Rattle.sd_script.specs.declared.script.Command.TheVariants.{Boot}
 use Rattle.sd_script.specs.declared.script.Script.{Script}
 use Rattle.sd_script.specs.declared.told.Told.{Told}
-use Rattle.sd_script.specs.declared.told.Told.TheVariants.{AddrOk, AddrTimeout, AddrFlood, AddrLinkFault, WaitOk, WaitFlood, WaitLinkFault}
+use Rattle.sd_script.specs.declared.told.Told.TheVariants.{AddrOk, AddrTimeout, AddrFlood, AddrLinkFault, BootUnbuilt, BootTimeout, BootFlood, BootRefused, BootTooLarge, BootLinkFault, WaitOk, WaitFlood, WaitLinkFault}
 use Rattle.sd_script.specs.Grammar.{IsScript, IsFirstOutside}
 use Rattle.sd_claims.specs.Machine.{first_state, IsRun}
 use Rattle.sd_claims.specs.Transcript.{Done, transcript, AllCaused}
 use Rattle.sd_claims.specs.Session.{parts_of}
 
--- the network loses, delays and repeats nothing, and the client waits at least two ticks for its address
+-- the network loses, delays and repeats nothing, the client waits at least two ticks for its address, and it doesn't boot
 pub record IsCalm (s : Script) : Type 0 where
   pub plain : s.events.fates ≡ []
+  pub no_boot : AllByRecursion (λ command. command ≢ Boot) s.commands
   pub patient : 2 ≤ s.config.tries * s.config.wait
 
 -- the command had its effect
@@ -26,6 +28,12 @@ IsOk (AddrOk ip) = Unit {0}
 IsOk AddrTimeout = ⊥
 IsOk (AddrFlood step) = ⊥
 IsOk AddrLinkFault = ⊥
+IsOk (BootUnbuilt step program) = ⊥
+IsOk (BootTimeout step) = ⊥
+IsOk (BootFlood step) = ⊥
+IsOk (BootRefused step code) = ⊥
+IsOk (BootTooLarge size) = ⊥
+IsOk BootLinkFault = ⊥
 IsOk (WaitOk shown) = Unit {0}
 IsOk (WaitFlood shown) = ⊥
 IsOk (WaitLinkFault shown) = ⊥
@@ -35,7 +43,7 @@ IsOk (WaitLinkFault shown) = ⊥
 pub record AreDone (s : Script) (commands : List Command) (done : List Done) : Type 0 where
   pub lawful : IsLawful s.config (fates_of s.events) (parts_of done)
   pub machine : IsRun s.config first_state commands (map (λ d. d.answer) done)
-  pub caused : AllCaused s.config commands done
+  pub caused : AllCaused s.config 0 commands done
   pub complete : IsCalm s → AllByRecursion (λ d. IsOk d.answer) done
 
 abbrev pub written : Script → List Done → List ℕ

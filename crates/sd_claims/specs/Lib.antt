@@ -1,6 +1,7 @@
 pub mod Machine
-pub mod Tries
 pub mod Rarp
+pub mod Fetching
+pub mod Booting
 pub mod Waiting
 pub mod Causes
 pub mod Transcript

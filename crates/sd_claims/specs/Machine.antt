@@ -1,10 +1,12 @@
 -- The boot machine: what a diskless client's commands may be answered. It has no packet, no tick and no retry.
-use Rattle.std.specs.Prelude.{◌≡◌, ℕ, List, [], ◌∷◌, Bool, true, false}
+use Rattle.std.specs.Prelude.{◌≡◌, ℕ, List, [], ◌∷◌, Option, Some, Bool, true, false}
 use Rattle.sd_link.specs.declared.config.Config.{Config}
+use Rattle.sd_link.specs.declared.link.Stage.TheVariants.{Whoami}
+use Rattle.sd_link.specs.Program.{program_of}
 use Rattle.sd_script.specs.declared.script.Command.{Command}
-use Rattle.sd_script.specs.declared.script.Command.TheVariants.{Addr, Wait}
+use Rattle.sd_script.specs.declared.script.Command.TheVariants.{Addr, Boot, Wait}
 use Rattle.sd_script.specs.declared.told.Told.{Told}
-use Rattle.sd_script.specs.declared.told.Told.TheVariants.{AddrOk, AddrTimeout, AddrFlood, AddrLinkFault, WaitOk, WaitFlood, WaitLinkFault}
+use Rattle.sd_script.specs.declared.told.Told.TheVariants.{AddrOk, AddrTimeout, AddrFlood, AddrLinkFault, BootUnbuilt, BootTimeout, BootFlood, BootRefused, BootTooLarge, BootLinkFault, WaitOk, WaitFlood, WaitLinkFault}
 
 -- the flag is up once a boot was ok, and then each page has at most one entry
 pub record State : Type 0 where
@@ -14,25 +16,59 @@ pub record State : Type 0 where
 abbrev pub first_state : State
 first_state = record { up = false; pages = [] }
 
+-- what `addr` may be answered: the configured address, or a refusal of the network
+abbrev pub IsAddrAnswer : Config → Told → Type 0
+IsAddrAnswer c (AddrOk ip) = ip ≡ c.client.ip
+IsAddrAnswer c AddrTimeout = Unit {0}
+IsAddrAnswer c (AddrFlood step) = Unit {0}
+IsAddrAnswer c AddrLinkFault = Unit {0}
+IsAddrAnswer c (BootUnbuilt step program) = ⊥
+IsAddrAnswer c (BootTimeout step) = ⊥
+IsAddrAnswer c (BootFlood step) = ⊥
+IsAddrAnswer c (BootRefused step code) = ⊥
+IsAddrAnswer c (BootTooLarge size) = ⊥
+IsAddrAnswer c BootLinkFault = ⊥
+IsAddrAnswer c (WaitOk shown) = ⊥
+IsAddrAnswer c (WaitFlood shown) = ⊥
+IsAddrAnswer c (WaitLinkFault shown) = ⊥
+
+-- what `boot` may be answered: the configured program, where the step after it isn't built, or a refusal of the network
+abbrev pub IsBootAnswer : Config → Told → Type 0
+IsBootAnswer c (BootUnbuilt step program) = (step ≡ Whoami) × (program_of c ≡ Some program)
+IsBootAnswer c (BootTimeout step) = Unit {0}
+IsBootAnswer c (BootFlood step) = Unit {0}
+IsBootAnswer c (BootRefused step code) = Unit {0}
+IsBootAnswer c (BootTooLarge size) = Unit {0}
+IsBootAnswer c BootLinkFault = Unit {0}
+IsBootAnswer c (AddrOk ip) = ⊥
+IsBootAnswer c AddrTimeout = ⊥
+IsBootAnswer c (AddrFlood step) = ⊥
+IsBootAnswer c AddrLinkFault = ⊥
+IsBootAnswer c (WaitOk shown) = ⊥
+IsBootAnswer c (WaitFlood shown) = ⊥
+IsBootAnswer c (WaitLinkFault shown) = ⊥
+
+-- what `wait` may be answered
+abbrev pub IsWaitAnswer : ℕ → Told → Type 0
+IsWaitAnswer ticks (WaitOk shown) = shown ≡ ticks
+IsWaitAnswer ticks (WaitFlood shown) = shown ≡ ticks
+IsWaitAnswer ticks (WaitLinkFault shown) = shown ≡ ticks
+IsWaitAnswer ticks (AddrOk ip) = ⊥
+IsWaitAnswer ticks AddrTimeout = ⊥
+IsWaitAnswer ticks (AddrFlood step) = ⊥
+IsWaitAnswer ticks AddrLinkFault = ⊥
+IsWaitAnswer ticks (BootUnbuilt step program) = ⊥
+IsWaitAnswer ticks (BootTimeout step) = ⊥
+IsWaitAnswer ticks (BootFlood step) = ⊥
+IsWaitAnswer ticks (BootRefused step code) = ⊥
+IsWaitAnswer ticks (BootTooLarge size) = ⊥
+IsWaitAnswer ticks BootLinkFault = ⊥
+
 -- From old, the machine may answer this and go on to new.
 abbrev pub Answers : Config → State → Command → Told → State → Type 0
--- `addr`: the configured address, or a refusal of the network
-Answers c old Addr (AddrOk ip) new = (ip ≡ c.client.ip) × (new ≡ old)
-Answers c old Addr AddrTimeout new = new ≡ old
-Answers c old Addr (AddrFlood step) new = new ≡ old
-Answers c old Addr AddrLinkFault new = new ≡ old
--- `wait`
-Answers c old (Wait ticks) (WaitOk shown) new = (shown ≡ ticks) × (new ≡ old)
-Answers c old (Wait ticks) (WaitFlood shown) new = (shown ≡ ticks) × (new ≡ old)
-Answers c old (Wait ticks) (WaitLinkFault shown) new = (shown ≡ ticks) × (new ≡ old)
--- no command has an answer of another
-Answers c old Addr (WaitOk shown) new = ⊥
-Answers c old Addr (WaitFlood shown) new = ⊥
-Answers c old Addr (WaitLinkFault shown) new = ⊥
-Answers c old (Wait ticks) (AddrOk ip) new = ⊥
-Answers c old (Wait ticks) AddrTimeout new = ⊥
-Answers c old (Wait ticks) (AddrFlood step) new = ⊥
-Answers c old (Wait ticks) AddrLinkFault new = ⊥
+Answers c old Addr answer new = IsAddrAnswer c answer × (new ≡ old)
+Answers c old Boot answer new = IsBootAnswer c answer × (new ≡ old)
+Answers c old (Wait ticks) answer new = IsWaitAnswer ticks answer × (new ≡ old)
 
 -- the machine may answer so, one command after another
 abbrev pub IsRun : Config → State → List Command → List Told → Type 0

@@ -2,7 +2,7 @@
 use Rattle.std.specs.Prelude.{◌≡◌, ℕ, ◌<◌, ◌≤◌, List, [], length}
 use Rattle.sd_link.specs.Steps.{Step}
 use Rattle.sd_link.specs.Parts.{sends_in, got_in, ticks_in}
-use Rattle.sd_claims.specs.Tries.{flood_limit}
+use Rattle.sd_link.specs.Tries.{flood_limit}
 
 -- so many ticks passed
 pub record Waited (ticks : ℕ) (part : List Step) : Type 0 where

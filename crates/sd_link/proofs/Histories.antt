@@ -3,8 +3,9 @@ use Rattle.std.proofs.Common.{◌≡◌, ℕ, ◌+◌, ◌≤◌, List, [], ◌�
 use Rattle.std.proofs.lemmas.List.{append-nil}
 use Rattle.sd_outside.specs.declared.packet.Packet.{Packet}
 use Rattle.sd_link.specs.declared.config.Config.{Config}
-use Rattle.sd_link.specs.World.{World, Flying, start}
-use Rattle.sd_link.specs.Steps.{Step, Tick, Send, Serve, Get, Entry, after, entries_of, run, AllAllowed, record_of, served, History, world_of, whole_record}
+use Rattle.sd_link.specs.World.{World, Session, Flying, start}
+use Rattle.sd_link.specs.Steps.{Step, Tick, Send, Serve, Data, End, Get, Entry, after, entries_of, run, AllAllowed, record_of, served, resent, History, world_of, whole_record, IsLawfulSoFar}
+use Rattle.sd_link.specs.Sessions.{session_in}
 use Rattle.sd_link.specs.Parts.{sends_in, got_in, ticks_in}
 use Rattle.sd_link.specs.Link.{GoesOn, Moves, TicksBefore, NothingWaits, IsSettledBy}
 use Rattle.sd_link.specs.declared.events.Events.{Events}
@@ -21,6 +22,10 @@ pub allowed-append : (c : Config) (w : World) (xs ys : List Step) → AllAllowed
 allowed-append c w [] ys first second = second
 allowed-append c w (x ∷ xs) ys first second = (first.0, allowed-append c (after c w x) xs ys first.1 second)
 
+pub allowed-split : (c : Config) (w : World) (xs ys : List Step) → AllAllowed c w (xs ++ ys) → AllAllowed c w xs × AllAllowed c (run c w xs) ys
+allowed-split c w [] ys all = (tt, all)
+allowed-split c w (x ∷ xs) ys all = let s = allowed-split c (after c w x) xs ys all.1 in ((all.0, s.0), s.1)
+
 pub record-append : (c : Config) (w : World) (xs ys : List Step) → record_of c w (xs ++ ys) ≡ record_of c w xs ++ record_of c (run c w xs) ys
 record-append c w [] ys = refl
 record-append c w (x ∷ xs) ys =
@@ -32,6 +37,8 @@ sends-append [] ys = refl
 sends-append (Tick ∷ xs) ys = sends-append xs ys
 sends-append (Send packet ∷ xs) ys = ap (λ (l : List Packet). packet ∷ l) (sends-append xs ys)
 sends-append (Serve id ∷ xs) ys = sends-append xs ys
+sends-append (Data number ∷ xs) ys = sends-append xs ys
+sends-append (End number ∷ xs) ys = sends-append xs ys
 sends-append (Get id packet ∷ xs) ys = sends-append xs ys
 
 pub got-append : (xs ys : List Step) → got_in (xs ++ ys) ≡ got_in xs ++ got_in ys
@@ -39,6 +46,8 @@ got-append [] ys = refl
 got-append (Tick ∷ xs) ys = got-append xs ys
 got-append (Send packet ∷ xs) ys = got-append xs ys
 got-append (Serve id ∷ xs) ys = got-append xs ys
+got-append (Data number ∷ xs) ys = got-append xs ys
+got-append (End number ∷ xs) ys = got-append xs ys
 got-append (Get id packet ∷ xs) ys = ap (λ (l : List Packet). packet ∷ l) (got-append xs ys)
 
 pub ticks-append : (xs ys : List Step) → ticks_in (xs ++ ys) ≡ ticks_in xs + ticks_in ys
@@ -46,11 +55,17 @@ ticks-append [] ys = omega arith
 ticks-append (Tick ∷ xs) ys = omega (arith, ticks-append xs ys)
 ticks-append (Send packet ∷ xs) ys = ticks-append xs ys
 ticks-append (Serve id ∷ xs) ys = ticks-append xs ys
+ticks-append (Data number ∷ xs) ys = ticks-append xs ys
+ticks-append (End number ∷ xs) ys = ticks-append xs ys
 ticks-append (Get id packet ∷ xs) ys = ticks-append xs ys
 
 pub tick-served : (c : Config) (w : World) (f : Option Flying) → (served c w f).tick ≡ w.tick
 tick-served c w None = refl
 tick-served c w (Some f) = refl
+
+pub tick-resent : (c : Config) (w : World) (s : Option Session) → (resent c w s).tick ≡ w.tick
+tick-resent c w None = refl
+tick-resent c w (Some s) = refl
 
 -- the tick grows by one with each Tick, and by nothing else
 pub tick-run : (c : Config) (w : World) (xs : List Step) → (run c w xs).tick ≡ w.tick + ticks_in xs
@@ -59,6 +74,9 @@ tick-run c w (Tick ∷ xs) = omega (arith, tick-run c (after c w Tick) xs)
 tick-run c w (Send packet ∷ xs) = tick-run c (after c w (Send packet)) xs
 tick-run c w (Serve id ∷ xs) =
     tick-run c (after c w (Serve id)) xs ∙ ap (λ (t : ℕ). t + ticks_in xs) (tick-served c w _)
+tick-run c w (Data number ∷ xs) =
+    tick-run c (after c w (Data number)) xs ∙ ap (λ (t : ℕ). t + ticks_in xs) (tick-resent c w _)
+tick-run c w (End number ∷ xs) = tick-run c (after c w (End number)) xs
 tick-run c w (Get id packet ∷ xs) = tick-run c w xs
 
 pub before-append : (until : ℕ) (c : Config) (w : World) (xs ys : List Step) → TicksBefore until c w xs → TicksBefore until c (run c w xs) ys → TicksBefore until c w (xs ++ ys)
@@ -66,6 +84,8 @@ before-append until c w [] ys first second = second
 before-append until c w (Tick ∷ xs) ys first second = (first.0, before-append until c (after c w Tick) xs ys first.1 second)
 before-append until c w (Send packet ∷ xs) ys first second = before-append until c (after c w (Send packet)) xs ys first second
 before-append until c w (Serve id ∷ xs) ys first second = before-append until c (after c w (Serve id)) xs ys first second
+before-append until c w (Data number ∷ xs) ys first second = before-append until c (after c w (Data number)) xs ys first second
+before-append until c w (End number ∷ xs) ys first second = before-append until c (after c w (End number)) xs ys first second
 before-append until c w (Get id packet ∷ xs) ys first second = before-append until c (after c w (Get id packet)) xs ys first second
 
 -- ticks that all begin before a moment don't pass it
@@ -74,6 +94,8 @@ before-bound until c w [] le h = le
 before-bound until c w (Tick ∷ xs) le h = before-bound until c (after c w Tick) xs (omega (arith, h.0)) h.1
 before-bound until c w (Send packet ∷ xs) le h = before-bound until c (after c w (Send packet)) xs le h
 before-bound until c w (Serve id ∷ xs) le h = before-bound until c (after c w (Serve id)) xs (omega (arith, tick-served c w (slice_get w.flight id))) h
+before-bound until c w (Data number ∷ xs) le h = before-bound until c (after c w (Data number)) xs (omega (arith, tick-resent c w (session_in number w.server.sessions))) h
+before-bound until c w (End number ∷ xs) le h = before-bound until c (after c w (End number)) xs le h
 before-bound until c w (Get id packet ∷ xs) le h = before-bound until c w xs le h
 
 -- ---- histories
@@ -95,6 +117,12 @@ world-goes a b xs goes =
     ap (λ (c : Config). run c (start c) b.steps) goes.config
     ∙ ap (λ (l : List Step). run a.config (start a.config) l) goes.steps
     ∙ run-append a.config (start a.config) a.steps xs
+
+-- where what came before may all happen, the part may happen after it
+pub allowed-goes : (a b : History) (xs : List Step) → GoesOn a b xs → IsLawfulSoFar a → AllAllowed a.config (world_of a) xs
+allowed-goes a b xs goes lawful =
+    let whole = subst (λ (c : Config). AllAllowed c (start c) b.steps) goes.config (goes.lawful lawful) in
+    (allowed-split a.config (start a.config) a.steps xs (subst (λ (l : List Step). AllAllowed a.config (start a.config) l) goes.steps whole)).1
 
 -- the record goes on with the history
 pub record-goes : (a b : History) (xs : List Step) → GoesOn a b xs → whole_record b ≡ whole_record a ++ record_of a.config (world_of a) xs

@@ -23,6 +23,10 @@ pub record IsName (name : List ℕ) : Type 0 where
   pub most : length name ≤ 255
   pub bytes : AllPass is_name_byte name
 
+-- the name of an architecture, or nothing where there is none
+abbrev pub IsArch : List ℕ → Type 0
+IsArch arch = (arch ≡ []) ⊎ IsName arch
+
 -- the least and the greatest value
 abbrev pub IsWithin : ℕ → ℕ → ℕ → Type 0
 IsWithin low high n = (low ≤ n) × (n ≤ high)
@@ -134,8 +138,7 @@ pub record IsConfig (c : Config) : Type 0 where
   pub macs : c.server.mac.0 ≢ c.client.mac.0
   pub ips : c.server.ip ≢ c.client.ip
   pub names : c.server.name ≢ c.client.name
-  -- an architecture has a name, or there is none
-  pub arch : (c.arch ≡ []) ⊎ IsName c.arch
+  pub arch : IsArch c.arch
   pub tftp : AreBootFiles c.tftp
   pub root : IfSome c.root IsPath
   pub items : AreRootItems c.items
@@ -162,5 +165,5 @@ pub record IsClientConfig (client : ClientConfig) : Type 0 where
   pub tries : IsWithin 1 64 client.tries
   pub wait : IsWithin 1 1000 client.wait
   pub pages : IsWithin 1 4095 client.pages
-  pub arch : (client.arch ≡ []) ⊎ IsName client.arch
+  pub arch : IsArch client.arch
   pub kernel : IsPath client.kernel

@@ -8,7 +8,7 @@ use Rattle.sd_link.specs.declared.config.Config.{Config}
 use Rattle.sd_link.specs.World.{World}
 use Rattle.sd_link.specs.Events.{fates_of}
 use Rattle.sd_link.specs.Lawful.{AllGot, Settles}
-use Rattle.sd_link.specs.Steps.{Step, Tick, Send, Serve, Get, History, after, run, world_of, whole_record, IsLawfulSoFar}
+use Rattle.sd_link.specs.Steps.{Step, Tick, Send, Serve, Data, End, Get, History, after, run, world_of, whole_record, IsLawfulSoFar}
 use Rattle.sd_link.specs.Parts.{sends_in, got_in}
 
 -- The history goes on by this part, whose steps may all happen, under the same configuration and events.
@@ -49,6 +49,8 @@ TicksBefore until c w [] = Unit {0}
 TicksBefore until c w (Tick ∷ steps) = (w.tick < until) × TicksBefore until c (after c w Tick) steps
 TicksBefore until c w (Send packet ∷ steps) = TicksBefore until c (after c w (Send packet)) steps
 TicksBefore until c w (Serve id ∷ steps) = TicksBefore until c (after c w (Serve id)) steps
+TicksBefore until c w (Data number ∷ steps) = TicksBefore until c (after c w (Data number)) steps
+TicksBefore until c w (End number ∷ steps) = TicksBefore until c (after c w (End number)) steps
 TicksBefore until c w (Get id packet ∷ steps) = TicksBefore until c (after c w (Get id packet)) steps
 
 -- nothing that is due to the client still waits

@@ -1,6 +1,7 @@
 //! The client's way into the world.
 ghost use Rattle.std.specs.Prelude.{◌≡◌, ℕ, ◌≤◌, ◌++◌, List, length, Option, OnOk, OnErr, IfSome};
 ghost use Rattle.sd_link.specs.Steps.{History, whole_record};
+ghost use Rattle.sd_link.specs.Lawful.{IsFrontOf};
 ghost use Rattle.sd_link.specs.Printing.{record_text};
 ghost use Rattle.sd_link.specs.Link.{Moves, IsNow, Sends, Receives, LinkCause, Counts, last_tick, Drains, IsBounded};
 
@@ -20,6 +21,10 @@ pub enum LinkError {
 pub enum Stage {
     /// Asking for its own address.
     Rarp,
+    /// Fetching its boot program (RFC 1350).
+    Tftp,
+    /// Asking for its own name.
+    Whoami,
     /// Letting time pass.
     Wait,
 }
@@ -49,6 +54,8 @@ pub trait Link {
         ensures told { told self.new ≡ told self.old }
         ensures tick { IsNow (told self.new) (clock self.new) }
         ensures bounded { IfSome (told self.new) IsBounded }
+        // What was drained is the text of a front of the record.
+        ensures front { IfSome (told self.new) (λ h. IsFrontOf (drained self.new) (record_text (whole_record h))) }
         ensures faults { faults self.old ≤ faults self.new }
         ensures handed { handed self.new ≡ handed self.old }
         ensures drained { drained self.new ≡ drained self.old };

@@ -119,6 +119,7 @@ word_one words.Kernel old args a b x y = kernel_one old args a b x y
 word_one words.Swap old args a b x y = swap_one old args a b x y
 word_one words.Fate old args a b x y = fate_one old args a b x y
 word_one words.Addr old args a b x y = adds_one old commands.Addr commands.Addr a b refl x.adds y.adds
+word_one words.Boot old args a b x y = adds_one old commands.Boot commands.Boot a b refl x.adds y.adds
 
 -- a word is known by its spelling
 
@@ -128,7 +129,7 @@ word_at text =
     (cond (bytes_eq text (codes "pages")) words.Pages (cond (bytes_eq text (codes "server")) words.Server (cond (bytes_eq text (codes "client")) words.Client
     (cond (bytes_eq text (codes "arch")) words.Arch (cond (bytes_eq text (codes "tftp")) words.Tftp (cond (bytes_eq text (codes "root")) words.Root
     (cond (bytes_eq text (codes "file")) words.File (cond (bytes_eq text (codes "link")) words.Link (cond (bytes_eq text (codes "kernel")) words.Kernel
-    (cond (bytes_eq text (codes "swap")) words.Swap (cond (bytes_eq text (codes "fate")) words.Fate words.Addr)))))))))))))
+    (cond (bytes_eq text (codes "swap")) words.Swap (cond (bytes_eq text (codes "fate")) words.Fate (cond (bytes_eq text (codes "addr")) words.Addr words.Boot))))))))))))))
 
 word_back : (word : Word) → word_at (spelling word) ≡ word
 word_back words.Life = refl
@@ -146,6 +147,7 @@ word_back words.Kernel = refl
 word_back words.Swap = refl
 word_back words.Fate = refl
 word_back words.Addr = refl
+word_back words.Boot = refl
 
 pub one_word : (a b : Word) → spelling a ≡ spelling b → a ≡ b
 one_word a b e = sym (word_back a) ∙ ap word_at e ∙ word_back b
@@ -167,6 +169,7 @@ word_starts words.Kernel = (omega arith, λ e. omega (arith, e))
 word_starts words.Swap = (omega arith, λ e. omega (arith, e))
 word_starts words.Fate = (omega arith, λ e. omega (arith, e))
 word_starts words.Addr = (omega arith, λ e. omega (arith, e))
+word_starts words.Boot = (omega arith, λ e. omega (arith, e))
 
 onto_starts : (b : ℕ) (parts : List Text) (x : Text) (xs : List Text) → onto_first b parts ≡ x ∷ xs → get_or x 0 0 ≡ b
 onto_starts b [] x xs e = ap (λ (t : Text). get_or t 0 0) (sym (firsts e))

@@ -336,6 +336,7 @@ word_kept words.Kernel old args new l k = kernel_kept old args new l k
 word_kept words.Swap old args new l k = swap_kept old args new l k
 word_kept words.Fate old args new l k = fate_kept old args new l k
 word_kept words.Addr old args new l k = adds_kept old commands.Addr new tt l.adds k
+word_kept words.Boot old args new l k = adds_kept old commands.Boot new tt l.adds k
 
 line_kept : (old : Draft) (line : Text) (new : Draft) → IsLine old line new → KeepsSoFar old → KeepsSoFar new
 line_kept old line new l k = elim l [ inl skipped ↦ subst KeepsSoFar (sym skipped.1) k | inr w ↦ word_kept w.word old w.args new w.says k ]

@@ -14,7 +14,7 @@ use Rattle.sd_script.specs.declared.error.ScriptError.TheVariants as errors
 use Rattle.sd_link.specs.Texts.{Text}
 use Rattle.sd_script.specs.Texts.{fields}
 use Rattle.sd_script.specs.Limits.{input_limit}
-use Rattle.sd_script.specs.Lines.{LifeLine, TriesLine, WaitLine, PagesLine, ServerLine, ClientLine, ArchLine, TftpLine, RootLine, FileLine, LinkLine, KernelLine, SwapFileLine, FateLine, AddrLine, WaitCommandLine}
+use Rattle.sd_script.specs.Lines.{LifeLine, TriesLine, WaitLine, PagesLine, ServerLine, ClientLine, ArchLine, TftpLine, RootLine, FileLine, LinkLine, KernelLine, SwapFileLine, FateLine, AddrLine, BootLine, WaitCommandLine}
 
 -- the word with which a line begins
 abbrev pub spelling : Word → Text
@@ -33,6 +33,7 @@ spelling words.Kernel = codes "kernel"
 spelling words.Swap = codes "swap"
 spelling words.Fate = codes "fate"
 spelling words.Addr = codes "addr"
+spelling words.Boot = codes "boot"
 
 -- a line with this word and these further fields leads from what the lines before it say to what they say with it
 abbrev pub WordLine : Word → Draft → List Text → Draft → Type 0
@@ -51,6 +52,7 @@ WordLine words.Kernel old args new = KernelLine old args new
 WordLine words.Swap old args new = SwapFileLine old args new
 WordLine words.Fate old args new = FateLine old args new
 WordLine words.Addr old args new = AddrLine old args new
+WordLine words.Boot old args new = BootLine old args new
 
 -- an empty line, and one that begins with `#`
 abbrev pub IsSkipped : Text → Type 0

@@ -259,6 +259,11 @@ pub record AddrLine (old : Draft) (args : List Text) (new : Draft) : Type 0 wher
   pub text : args ≡ []
   pub adds : AddsCommand old commands.Addr new
 
+-- `boot`
+pub record BootLine (old : Draft) (args : List Text) (new : Draft) : Type 0 where
+  pub text : args ≡ []
+  pub adds : AddsCommand old commands.Boot new
+
 -- `wait N`
 pub record WaitCommandLine (old : Draft) (args : List Text) (new : Draft) : Type 0 where
   pub ticks : ℕ

@@ -4,13 +4,14 @@ use Rattle.std.specs.List.{All}
 use Rattle.sd_link.specs.Config.{IsConfig, IsWithin}
 use Rattle.sd_link.specs.Events.{IsEvents}
 use Rattle.sd_script.specs.declared.script.Command.{Command}
-use Rattle.sd_script.specs.declared.script.Command.TheVariants.{Addr, Wait}
+use Rattle.sd_script.specs.declared.script.Command.TheVariants.{Addr, Wait, Boot}
 use Rattle.sd_script.specs.declared.script.Script.{Script}
 use Rattle.sd_script.specs.Limits.{command_limit}
 
 abbrev pub IsCommand : Command → Type 0
 IsCommand Addr = Unit {0}
 IsCommand (Wait ticks) = IsWithin 1 100000 ticks
+IsCommand Boot = Unit {0}
 
 pub record KeepsRules (script : Script) : Type 0 where
   pub config : IsConfig script.config

@@ -4,6 +4,7 @@ ghost use Rattle.std.specs.Prelude.{◌≡◌, ◌++◌, codes, OnOk, OnErr};
 ghost use Rattle.std.specs.Fmt.{decimal};
 ghost use Rattle.sd_script.specs.Answers.{answer_text, answer_line, stage_text};
 
+use crate::runs::write_runs;
 use crate::told::Told;
 use crate::writing::{ip_list, push_number};
 use sd_link::Stage;
@@ -16,6 +17,8 @@ fn stage_word(stage: Stage) -> &'static [u8]
 {
     match stage {
         Stage::Rarp => b"rarp",
+        Stage::Tftp => b"tftp",
+        Stage::Whoami => b"whoami",
         Stage::Wait => b"wait",
     }
 }
@@ -28,17 +31,53 @@ fn push_address(alloc: Global, ip: u32, line: &mut ByteList) -> Result<(), NoMem
     line.push_slice(ip_list(alloc, ip)?.as_slice())
 }
 
-/// Adds `addr flood STEP`.
-fn push_flood(step: Stage, line: &mut ByteList) -> Result<(), NoMemory>
-    ensures { OnOk result (line.new ≡ line.old ++ answer_text (Told.AddrFlood step)) }
+/// Adds some words and the word for a step.
+fn push_step(words: &[u8], step: Stage, line: &mut ByteList) -> Result<(), NoMemory>
+    ensures { OnOk result (line.new ≡ line.old ++ (words.now ++ stage_text step)) }
 {
-    line.push_slice(b"addr flood ")?;
+    line.push_slice(words)?;
     line.push_slice(stage_word(step))
+}
+
+/// Adds `boot unbuilt STEP program BYTES`.
+fn push_unbuilt(
+    alloc: Global,
+    step: Stage,
+    program: &ByteList,
+    line: &mut ByteList,
+) -> Result<(), NoMemory>
+    ensures { OnOk result (line.new ≡ line.old ++ answer_text (Told.BootUnbuilt step program.now)) }
+{
+    push_step(b"boot unbuilt ", step, line)?;
+    line.push_slice(b" program ")?;
+    write_runs(alloc, program.as_slice(), line)?;
+    Ok(())
+}
+
+/// Adds some words and a number.
+fn push_count(alloc: Global, words: &[u8], count: u64, line: &mut ByteList) -> Result<(), NoMemory>
+    ensures { OnOk result (line.new ≡ line.old ++ (words.now ++ decimal count)) }
+{
+    line.push_slice(words)?;
+    push_number(alloc, line, count)
+}
+
+/// Adds `boot refused STEP N`.
+fn push_refused(
+    alloc: Global,
+    step: Stage,
+    status: u32,
+    line: &mut ByteList,
+) -> Result<(), NoMemory>
+    ensures { OnOk result (line.new ≡ line.old ++ answer_text (Told.BootRefused step status)) }
+{
+    push_step(b"boot refused ", step, line)?;
+    push_count(alloc, b" ", u64::from(status), line)
 }
 
 /// Adds `wait N` and what stands behind it.
 fn push_wait(alloc: Global, ticks: u64, end: &[u8], line: &mut ByteList) -> Result<(), NoMemory>
-    ensures { OnOk result (line.new ≡ line.old ++ codes "wait " ++ decimal ticks ++ end.now) }
+    ensures { OnOk result (line.new ≡ line.old ++ (codes "wait " ++ decimal ticks ++ end.now)) }
 {
     line.push_slice(b"wait ")?;
     push_number(alloc, line, ticks)?;
@@ -52,8 +91,14 @@ fn push_answer(alloc: Global, answer: &Told, line: &mut ByteList) -> Result<(), 
     match answer {
         Told::AddrOk { ip } => push_address(alloc, *ip, line),
         Told::AddrTimeout => line.push_slice(b"addr timeout rarp"),
-        Told::AddrFlood { step } => push_flood(*step, line),
+        Told::AddrFlood { step } => push_step(b"addr flood ", *step, line),
         Told::AddrLinkFault => line.push_slice(b"addr linkfault"),
+        Told::BootUnbuilt { step, program } => push_unbuilt(alloc, *step, program, line),
+        Told::BootTimeout { step } => push_step(b"boot timeout ", *step, line),
+        Told::BootFlood { step } => push_step(b"boot flood ", *step, line),
+        Told::BootRefused { step, status } => push_refused(alloc, *step, *status, line),
+        Told::BootTooLarge { size } => push_count(alloc, b"boot toolarge ", *size, line),
+        Told::BootLinkFault => line.push_slice(b"boot linkfault"),
         Told::WaitOk { ticks } => push_wait(alloc, *ticks, b" ok", line),
         Told::WaitFlood { ticks } => push_wait(alloc, *ticks, b" flood wait", line),
         Told::WaitLinkFault { ticks } => push_wait(alloc, *ticks, b" linkfault", line),

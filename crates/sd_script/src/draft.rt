@@ -36,6 +36,7 @@ pub enum Word {
     Swap,
     Fate,
     Addr,
+    Boot,
 }
 
 /// What the lines so far say, and which may come next. A value whose line hasn't come is zero or empty.

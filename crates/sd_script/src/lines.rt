@@ -14,7 +14,7 @@ mod heading;
 use crate::draft::{Draft, Section, Word};
 use crate::error::LineError;
 use crate::parts::Parts;
-use commands::{addr_line, wait_command_line};
+use commands::{addr_line, boot_line, wait_command_line};
 use config::{arch_line, kernel_line, root_line, swap_line};
 use events::fate_line;
 use files::{file_line, link_line, tftp_line};
@@ -41,6 +41,7 @@ fn word_of(text: &[u8]) -> Option<Word>
         b"swap" => Some(Word::Swap),
         b"fate" => Some(Word::Fate),
         b"addr" => Some(Word::Addr),
+        b"boot" => Some(Word::Boot),
         _ => None,
     }
 }
@@ -80,6 +81,7 @@ fn word_line(
         Word::Swap => swap_line(alloc, draft, fields),
         Word::Fate => fate_line(alloc, draft, fields),
         Word::Addr => addr_line(draft, fields),
+        Word::Boot => boot_line(draft, fields),
     }
 }
 

@@ -15,6 +15,8 @@ pub enum Command {
     Addr,
     /// The client waits so many ticks, 1 to 100,000.
     Wait { ticks: u64 },
+    /// The client boots.
+    Boot,
 }
 
 /// A script: what its configuration, event and command lines say.

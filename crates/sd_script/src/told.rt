@@ -1,9 +1,10 @@
 //! What a command was answered.
 
 use sd_link::Stage;
+use sd_outside::ByteList;
 
 /// The answer to a command, one variant for each answer line.
-#[derive(Clone, Copy, Debug, PartialEq, Eq)]
+#[derive(Debug, Drop)]
 pub enum Told {
     /// The client's address, the first number of its text highest.
     AddrOk { ip: u32 },
@@ -13,6 +14,18 @@ pub enum Told {
     AddrFlood { step: Stage },
     /// The link failed.
     AddrLinkFault,
+    /// The boot went on to a step that isn't built. The program that was fetched is the configuration's.
+    BootUnbuilt { step: Stage, program: ByteList },
+    /// No reply came to any try of this step.
+    BootTimeout { step: Stage },
+    /// 4,096 packets without a match came in one try of this step.
+    BootFlood { step: Stage },
+    /// The server refused this step, with its status or its error code.
+    BootRefused { step: Stage, status: u32 },
+    /// The boot program has more bytes than the client takes.
+    BootTooLarge { size: u64 },
+    /// The link failed in the boot.
+    BootLinkFault,
     /// So many ticks passed.
     WaitOk { ticks: u64 },
     /// 4,096 packets came in the waiting.

@@ -42,7 +42,7 @@ AllTimely life delays = AllByRecursion (λ d. (1 ≤ d) × (d < life)) delays
 pub record IsTimely (life : ℕ) (fates : Fates) : Type 0 where
   pub delays : (id : ℕ) → AllTimely life (fates id)
 
-all_of : {A : Type 0} (P : A → Type 0) (xs : List A) → All P xs → AllByRecursion P xs
+pub all_of : {A : Type 0} (P : A → Type 0) (xs : List A) → All P xs → AllByRecursion P xs
 all_of P [] all = tt
 all_of P (x ∷ xs) all = (all 0 x (omega arith), all_of P xs (λ k d lt. all (suc k) d (omega arith)))
 

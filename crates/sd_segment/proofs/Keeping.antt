@@ -1,21 +1,22 @@
 -- One more thing that a segment keeps.
 use Rattle.std.proofs.Common.{◌≡◌, ℕ, zero, suc, ◌+◌, ◌-◌, ◌<◌, ◌≤◌, List, [], ◌∷◌, ◌++◌, length, take, drop, map, replicate, Option, Some, refl, sym, ◌∙◌, ap, subst, arith, append_assoc, length-append}
-use Rattle.std.specs.Prelude.{slice_get}
+use Rattle.std.specs.Prelude.{slice_get, IsTrue}
 use Rattle.std.specs.Option.{option_map}
 use Rattle.std.specs.List.{AllByRecursion}
 use Rattle.std.proofs.lemmas.Grind.{flat_map-append}
 use Rattle.std.proofs.lemmas.List.{append-nil, drop_at, take_all, map-append, length-map}
 use Rattle.sd_outside.specs.declared.packet.Packet.{Packet}
 use Rattle.sd_link.specs.declared.config.Config.{Config}
-use Rattle.sd_link.specs.World.{Flying, Server, start}
-use Rattle.sd_link.specs.Reply.{out_of}
-use Rattle.sd_link.specs.Steps.{Step, Tick, Send, Serve, Get, Entry, run, after, served, sent_from, replies_to, entries_of, record_of, AllAllowed, Allowed, IsDeliverable, goes_to_server, goes_to_client}
+use Rattle.sd_link.specs.World.{World, Session, ServerPart, Flying, Server, start}
+use Rattle.sd_link.specs.Sessions.{session_in, with_session, without_session, is_due, sent_again, block_packet}
+use Rattle.sd_link.specs.Reply.{out_of, next_of}
+use Rattle.sd_link.specs.Steps.{Step, Tick, Send, Serve, Data, End, Get, Entry, run, after, served, resent, with_sessions, blocks_again, sent_from, replies_to, entries_of, record_of, AllAllowed, Allowed, IsDeliverable, goes_to_server, goes_to_client}
 use Rattle.sd_link.proofs.Histories.{run-append, allowed-append, record-append}
 use Rattle.sd_segment.specs.declared.flown.Origin.TheVariants as origin
 use Rattle.sd_segment.specs.declared.flown.Flown.{Flown}
 use Rattle.sd_segment.specs.declared.flown.Kept.{Kept}
 use Rattle.sd_segment.specs.declared.flown.What.{What}
-use Rattle.sd_segment.specs.declared.flown.What.TheVariants.{Sent, Served, Got}
+use Rattle.sd_segment.specs.declared.flown.What.TheVariants.{Sent, Served, Again, Ended, Got}
 use Rattle.sd_segment.specs.Flight.{flying_of, packet_or, reply_of, replied}
 use Rattle.sd_segment.specs.Kept.{step_of, steps_from, steps_kept, last_kept, sent_entries, entries_of_kept, entries_kept, ids_end}
 use Rattle.sd_segment.specs.Segment.{Keeps, world_at}
@@ -45,11 +46,15 @@ stretch-front (x ∷ xs) ys (suc at) n le = stretch-front xs ys at n (omega arit
 step-grow : (flight more : List Flown) (what : What) → ids_end what ≤ length flight → step_of (flight ++ more) what ≡ step_of flight what
 step-grow flight more (Sent id) le = ap (λ o. Send (packet_or o)) (get-front flight more id (omega arith))
 step-grow flight more (Served id first count) le = refl
+step-grow flight more (Again number id) le = refl
+step-grow flight more (Ended number) le = refl
 step-grow flight more (Got id) le = ap (λ o. Get id (packet_or o)) (get-front flight more id (omega arith))
 
 entries-grow : (flight more : List Flown) (tick : ℕ) (what : What) → ids_end what ≤ length flight → entries_of_kept (flight ++ more) tick what ≡ entries_of_kept flight tick what
 entries-grow flight more tick (Sent id) le = ap (sent_entries tick id) (stretch-front flight more id 1 le)
 entries-grow flight more tick (Served id first count) le = ap (λ l. Rattle.sd_link.specs.Steps.Served tick id ∷ sent_entries tick first l) (stretch-front flight more first count le)
+entries-grow flight more tick (Again number id) le = ap (sent_entries tick id) (stretch-front flight more id 1 le)
+entries-grow flight more tick (Ended number) le = refl
 entries-grow flight more tick (Got id) le = refl
 
 steps-grow : (flight more : List Flown) (tick : ℕ) (kept : List Kept) → AllByRecursion (λ k. ids_end k.what ≤ length flight) kept → steps_from (flight ++ more) tick kept ≡ steps_from flight tick kept
@@ -112,17 +117,17 @@ tick-push flight kept tick le =
 -- ---- each kind of step
 
 -- what is kept stays a history where the step does to the world what was kept
-pub keep_step : (c : Config) (flight more : List Flown) (kept : List Kept) (tick : ℕ) (what : What) (step : Step) → Keeps c flight kept tick
-    → step_of (flight ++ more) what ≡ step → Allowed c (world_at c flight tick) step
-    → after c (world_at c flight tick) step ≡ world_at c (flight ++ more) tick
-    → entries_of c (world_at c flight tick) step ≡ entries_of_kept (flight ++ more) tick what
+pub keep_step : (c : Config) (part next : ServerPart) (flight more : List Flown) (kept : List Kept) (tick : ℕ) (what : What) (step : Step) → Keeps c part flight kept tick
+    → step_of (flight ++ more) what ≡ step → Allowed c (world_at part flight tick) step
+    → after c (world_at part flight tick) step ≡ world_at next (flight ++ more) tick
+    → entries_of c (world_at part flight tick) step ≡ entries_of_kept (flight ++ more) tick what
     → ids_end what ≤ length (flight ++ more)
-    → Keeps c (flight ++ more) (kept ++ record { tick = tick; what = what } ∷ []) tick
-keep_step c flight more kept tick what step k is may does writes ends =
+    → Keeps c next (flight ++ more) (kept ++ record { tick = tick; what = what } ∷ []) tick
+keep_step c part next flight more kept tick what step k is may does writes ends =
     let all = flight ++ more in
     let entry : Kept = record { tick = tick; what = what } in
     let steps = steps_kept flight kept tick in
-    let w = world_at c flight tick in
+    let w = world_at part flight tick in
     let push : steps_kept all (kept ++ entry ∷ []) tick ≡ steps ++ step ∷ [] = kept-push flight more kept tick what k.ids ∙ ap (λ s. steps ++ s ∷ []) is in
     record {
       world = ap (λ l. run c (start c) l) push ∙ run-append c (start c) steps (step ∷ []) ∙ ap (λ v. run c v (step ∷ [])) k.world ∙ does;
@@ -140,8 +145,8 @@ keep_step c flight more kept tick what step k is may does writes ends =
       ticks = omega (arith, last-push 0 kept entry);
     }
 
-pub keep_tick : (c : Config) (flight : List Flown) (kept : List Kept) (tick : ℕ) → Keeps c flight kept tick → Keeps c flight kept (tick + 1)
-keep_tick c flight kept tick k =
+pub keep_tick : (c : Config) (part : ServerPart) (flight : List Flown) (kept : List Kept) (tick : ℕ) → Keeps c part flight kept tick → Keeps c part flight kept (tick + 1)
+keep_tick c part flight kept tick k =
     let steps = steps_kept flight kept tick in
     let push = tick-push flight kept tick k.ticks in
     record {
@@ -164,12 +169,12 @@ get-map f (x ∷ xs) zero = refl
 get-map f (x ∷ xs) (suc i) = get-map f xs i
 
 -- the client sends
-pub keep_sent : (c : Config) (flight : List Flown) (kept : List Kept) (tick : ℕ) (packet : Packet) (fate : Option ℕ) → Keeps c flight kept tick
-    → Keeps c (flight ++ record { from = origin.Client; tick = tick; packet = packet; fate = fate } ∷ []) (kept ++ record { tick = tick; what = Sent (length flight) } ∷ []) tick
-keep_sent c flight kept tick packet fate k =
+pub keep_sent : (c : Config) (part : ServerPart) (flight : List Flown) (kept : List Kept) (tick : ℕ) (packet : Packet) (fate : Option ℕ) → Keeps c part flight kept tick
+    → Keeps c part (flight ++ record { from = origin.Client; tick = tick; packet = packet; fate = fate } ∷ []) (kept ++ record { tick = tick; what = Sent (length flight) } ∷ []) tick
+keep_sent c part flight kept tick packet fate k =
     let f : Flown = record { from = origin.Client; tick = tick; packet = packet; fate = fate } in
-    let w = world_at c flight tick in
-    keep_step c flight (f ∷ []) kept tick (Sent (length flight)) (Send packet) k
+    let w = world_at part flight tick in
+    keep_step c part part flight (f ∷ []) kept tick (Sent (length flight)) (Send packet) k
     (ap (λ o. Send (packet_or o)) (get-last flight f))
     tt
     (ap (λ l. record w { flight = l }) (sym (map-append flying_of flight (f ∷ []))))
@@ -185,20 +190,22 @@ replied-entries tick id fate [] = refl
 replied-entries tick id fate (p ∷ ps) = ap (λ l. Rattle.sd_link.specs.Steps.Sent tick id p ∷ l) (replied-entries tick (id + 1) fate ps)
 
 -- a packet comes to the server
-pub keep_served : (c : Config) (flight : List Flown) (kept : List Kept) (tick id : ℕ) (f : Flown) (fate : Option ℕ) (packets : List Packet) → Keeps c flight kept tick
-    → slice_get flight id ≡ Some f → IsComing c (world_at c flight tick) (goes_to_server c) id
-    → packets ≡ out_of c tick (start c).server f.packet
-    → Keeps c (flight ++ replied tick fate packets) (kept ++ record { tick = tick; what = Served id (length flight) (length packets) } ∷ []) tick
-keep_served c flight kept tick id f fate packets k at come out =
-    let w = world_at c flight tick in
+pub keep_served : (c : Config) (part next : ServerPart) (flight : List Flown) (kept : List Kept) (tick id : ℕ) (f : Flown) (fate : Option ℕ) (packets : List Packet) → Keeps c part flight kept tick
+    → slice_get flight id ≡ Some f → IsComing c (world_at part flight tick) (goes_to_server c) id
+    → packets ≡ out_of c tick part f.packet → next ≡ next_of c tick part f.packet
+    → Keeps c next (flight ++ replied tick fate packets) (kept ++ record { tick = tick; what = Served id (length flight) (length packets) } ∷ []) tick
+keep_served c part next flight kept tick id f fate packets k at come out becomes =
+    let w = world_at part flight tick in
     let more = replied tick fate packets in
     let there : slice_get w.flight id ≡ Some (flying_of f) = get-map flying_of flight id ∙ ap (option_map flying_of) at in
-    keep_step c flight more kept tick (Served id (length flight) (length packets)) (Serve id) k
+    keep_step c part next flight more kept tick (Served id (length flight) (length packets)) (Serve id) k
     refl
     (come.f, come.here, come.goes_there)
-    (ap (served c w) there ∙ ap (λ l. record w { flight = map flying_of flight ++ map (λ packet. record { from = Server; tick = tick; packet = packet }) l }) (sym out)
-    ∙ ap (λ l. record w { flight = map flying_of flight ++ l }) (sym (replied-flying tick fate packets))
-    ∙ ap (λ l. record w { flight = l }) (sym (map-append flying_of flight more)))
+    (ap (served c w) there
+    ∙ ap (λ (n : ServerPart). let v : World = record w { server = n; flight = map flying_of flight ++ map (λ packet. record { from = Server; tick = tick; packet = packet }) (out_of c tick part f.packet) } in v) (sym becomes)
+    ∙ ap (λ l. record w { server = next; flight = map flying_of flight ++ map (λ packet. record { from = Server; tick = tick; packet = packet }) l }) (sym out)
+    ∙ ap (λ l. record w { server = next; flight = map flying_of flight ++ l }) (sym (replied-flying tick fate packets))
+    ∙ ap (λ l. record w { server = next; flight = l }) (sym (map-append flying_of flight more)))
     (ap (λ o. Rattle.sd_link.specs.Steps.Served tick id ∷ sent_from tick (length w.flight) (replies_to c w o)) there
     ∙ ap (λ l. Rattle.sd_link.specs.Steps.Served tick id ∷ sent_from tick (length w.flight) l) (sym out)
     ∙ ap (λ n. Rattle.sd_link.specs.Steps.Served tick id ∷ sent_from tick n packets) (length-map flight flying_of)
@@ -210,21 +217,53 @@ keep_served c flight kept tick id f fate packets k at come out =
     stretch xs ys n is = ap (λ l. take n l) (drop_at xs ys (length xs) refl) ∙ take_all n ys (omega arith)
 
 -- a packet comes to the client
-pub keep_got : (c : Config) (flight : List Flown) (kept : List Kept) (tick id : ℕ) (f : Flown) → Keeps c flight kept tick
-    → slice_get flight id ≡ Some f → id < length flight → IsComing c (world_at c flight tick) (goes_to_client c) id
-    → Keeps c flight (kept ++ record { tick = tick; what = Got id } ∷ []) tick
-keep_got c flight kept tick id f k at inside come =
-    let w = world_at c flight tick in
+pub keep_got : (c : Config) (part : ServerPart) (flight : List Flown) (kept : List Kept) (tick id : ℕ) (f : Flown) → Keeps c part flight kept tick
+    → slice_get flight id ≡ Some f → id < length flight → IsComing c (world_at part flight tick) (goes_to_client c) id
+    → Keeps c part flight (kept ++ record { tick = tick; what = Got id } ∷ []) tick
+keep_got c part flight kept tick id f k at inside come =
+    let w = world_at part flight tick in
     let there : slice_get w.flight id ≡ Some (flying_of f) = get-map flying_of flight id ∙ ap (option_map flying_of) at in
     let is : come.f ≡ flying_of f = cc (come.here.sent, there) in
     let same : flight ++ [] ≡ flight = append-nil flight in
-    subst (λ l. Keeps c l (kept ++ record { tick = tick; what = Got id } ∷ []) tick) same
-    (keep_step c flight [] kept tick (Got id) (Get id f.packet) k
+    subst (λ l. Keeps c part l (kept ++ record { tick = tick; what = Got id } ∷ []) tick) same
+    (keep_step c part part flight [] kept tick (Got id) (Get id f.packet) k
     (ap (λ l. Get id (packet_or (slice_get l id))) same ∙ ap (λ o. Get id (packet_or o)) at)
     (come.f, come.here, come.goes_there, ap (λ (x : Flying). x.packet) is)
-    (ap (λ l. world_at c l tick) (sym same))
+    (ap (λ l. world_at part l tick) (sym same))
     refl
     (omega (arith, ap length same)))
 
-pub keep_none : (c : Config) → Keeps c [] [] 0
+-- a session sends its present block again
+pub keep_again : (c : Config) (part : ServerPart) (flight : List Flown) (kept : List Kept) (tick number : ℕ) (fate : Option ℕ) (s : Session) → Keeps c part flight kept tick
+    → session_in number part.sessions ≡ Some s → IsTrue (is_due c tick s) → s.sends < c.tries
+    → Keeps c (record part { sessions = with_session (sent_again tick s) part.sessions }) (flight ++ reply_of tick fate (block_packet c s) ∷ []) (kept ++ record { tick = tick; what = Again number (length flight) } ∷ []) tick
+keep_again c part flight kept tick number fate s k found due few =
+    let w = world_at part flight tick in
+    let f = reply_of tick fate (block_packet c s) in
+    let next : ServerPart = record part { sessions = with_session (sent_again tick s) part.sessions } in
+    keep_step c part next flight (f ∷ []) kept tick (Again number (length flight)) (Data number) k
+    refl
+    (s, record { found = found; due = due }, few)
+    (ap (resent c w) found ∙ ap (λ l. record w { server = next; flight = l }) (sym (map-append flying_of flight (f ∷ []))))
+    (ap (λ (o : Option Session). sent_from tick (length w.flight) (blocks_again c o)) found
+    ∙ ap (λ n. Rattle.sd_link.specs.Steps.Sent tick n f.packet ∷ []) (length-map flight flying_of)
+    ∙ ap (λ l. sent_entries tick (length flight) (take 1 l)) (sym (drop_at flight (f ∷ []) (length flight) refl)))
+    (omega (arith, length-append flight (f ∷ [])))
+
+-- a session ends
+pub keep_ended : (c : Config) (part : ServerPart) (flight : List Flown) (kept : List Kept) (tick number : ℕ) (s : Session) → Keeps c part flight kept tick
+    → session_in number part.sessions ≡ Some s → IsTrue (is_due c tick s) → c.tries ≤ s.sends
+    → Keeps c (record part { sessions = without_session number part.sessions }) flight (kept ++ record { tick = tick; what = Ended number } ∷ []) tick
+keep_ended c part flight kept tick number s k found due enough =
+    let next : ServerPart = record part { sessions = without_session number part.sessions } in
+    let same : flight ++ [] ≡ flight = append-nil flight in
+    subst (λ l. Keeps c next l (kept ++ record { tick = tick; what = Ended number } ∷ []) tick) same
+    (keep_step c part next flight [] kept tick (Ended number) (End number) k
+    refl
+    (s, record { found = found; due = due }, enough)
+    (ap (λ l. world_at next l tick) (sym same))
+    refl
+    (omega arith))
+
+pub keep_none : (c : Config) → Keeps c (start c).server [] [] 0
 keep_none c = record { world = refl; allowed = tt; entries = refl; ids = tt; ticks = omega arith }

@@ -1,3 +1,10 @@
+pub mod Found
+pub mod Blocks
+pub mod Numbering
+pub mod Firsts
+pub mod Files
+pub mod Datagrams
+pub mod Retained
 pub mod Fates
 pub mod Copies
 pub mod Dues

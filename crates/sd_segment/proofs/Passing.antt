@@ -4,34 +4,36 @@ use Rattle.std.specs.Prelude.{slice_get, ◌⊎◌}
 use Rattle.std.specs.List.{AllByRecursion}
 use Rattle.std.proofs.lemmas.List.{append-nil, take-append-le, length-map}
 use Rattle.sd_outside.specs.declared.packet.Packet.{Packet}
-use Rattle.sd_outside.specs.declared.packet.Packet.TheVariants.{Frame, Udp}
-use Rattle.sd_link.specs.declared.config.Config.{Config}
 use Rattle.sd_link.specs.declared.events.Fate.{Fate}
 use Rattle.sd_link.specs.Events.{fates_of, fate_in}
-use Rattle.sd_link.specs.World.{World, Sender, start}
-use Rattle.sd_link.specs.Reply.{out_of}
-use Rattle.sd_link.specs.Steps.{Step, Tick, Send, Serve, Get, Entry, goes_to_server, goes_to_client, whole_record}
+use Rattle.sd_link.specs.World.{World, Sender}
+use Rattle.sd_link.specs.Sessions.{with_session, without_session, sent_again, block_packet}
+use Rattle.sd_link.specs.Reply.{reply}
+use Rattle.sd_link.specs.Steps.{Step, Tick, Send, Serve, Data, End, Get, Entry, goes_to_server, goes_to_client, whole_record}
 use Rattle.sd_link.specs.Lawful.{served_at, got_at, due_to_server, due_to_client, AllGot, IsFrontOf}
 use Rattle.sd_link.specs.Link.{last_tick, IsBounded, NothingWaits}
 use Rattle.sd_link.specs.Printing.{record_text}
 use Rattle.sd_segment.specs.declared.flown.Origin.TheVariants as origin
 use Rattle.sd_segment.specs.declared.flown.Flown.{Flown}
 use Rattle.sd_segment.specs.declared.flown.Kept.{Kept}
-use Rattle.sd_segment.specs.declared.flown.What.TheVariants.{Sent, Served, Got}
-use Rattle.sd_segment.specs.Flight.{flying_of, packet_or, packets_in, replied, reply_of, delays_of, AllFated}
+use Rattle.sd_segment.specs.declared.flown.What.TheVariants.{Sent, Served, Again, Ended, Got}
+use Rattle.sd_segment.specs.declared.sessions.Sending.{Sending}
+use Rattle.sd_segment.specs.declared.sessions.Answer.{Answer}
+use Rattle.sd_segment.specs.Flight.{flying_of, packet_or, replied, reply_of, delays_of, AllFated}
+use Rattle.sd_segment.specs.Server.{ServerView, session_of, packets_in, changed, Answers, IsNext}
 use Rattle.sd_segment.specs.Kept.{steps_kept, entries_kept, ids_end}
-use Rattle.sd_segment.specs.Segment.{SegmentView, IsSound, world_at, history_of, text_drained}
+use Rattle.sd_segment.specs.Segment.{SegmentView, IsSound, Rests, world_at, history_of, text_drained}
 use Rattle.sd_segment.specs.Passing.{Passes}
 use Rattle.sd_segment.proofs.Fates.{IsTimely, timely, fated-push}
 use Rattle.sd_segment.proofs.Dues.{IsComing, all_coming, all-suffix}
-use Rattle.sd_segment.proofs.Keeping.{kept-push, kept-grow, tick-push, get-last, keep_sent, keep_served, keep_got, keep_tick}
+use Rattle.sd_segment.proofs.Keeping.{kept-push, kept-grow, tick-push, get-last, keep_sent, keep_served, keep_again, keep_ended, keep_got, keep_tick}
 use Rattle.sd_segment.proofs.Printed.{all_lines}
-use Rattle.sd_segment.proofs.Turning.{turn_sent, turn_served, turn_got, turn_tick}
+use Rattle.sd_segment.proofs.Turning.{turn_sent, turn_served, turn_again, turn_ended, turn_got, turn_tick}
 
 -- ---- what a sound segment knows
 
 pub timely_of : (s : SegmentView) → IsSound s → IsTimely s.config.life (fates_of s.events)
-timely_of s i = timely s.config.life s.events.fates i.life i.events.fates
+timely_of s i = timely s.config.life s.events.fates i.config.life.0 i.events.fates
 
 pub bounded_of : (s : SegmentView) → IsSound s → IsBounded (history_of s)
 bounded_of s i = record {
@@ -45,7 +47,7 @@ settled_of s i none =
     let fates = fates_of s.events in
     let h = history_of s in
     let entries = entries_kept s.flight s.kept in
-    let there = world_at s.config s.flight s.tick in
+    let there = world_at s.server s.flight s.tick in
     let all : AllGot s.config fates there entries =
     sym (append-nil (got_at s.tick entries)) ∙ ap (λ (l : List ℕ). got_at s.tick entries ++ l) (sym none) ∙ i.turns.client in
     subst (λ (w : World). AllGot s.config fates w (whole_record h)) (sym i.keeps.world)
@@ -58,16 +60,16 @@ all_first : (P : ℕ → Type 0) (xs : List ℕ) (x : ℕ) → slice_get xs 0 �
 all_first P [] x is all = absurd (cc)
 all_first P (y ∷ ys) x is all = let same : y ≡ x = cc in subst P same all.0
 
-pub coming_to_server : (s : SegmentView) (id : ℕ) → IsSound s → slice_get s.to_server 0 ≡ Some id → IsComing s.config (world_at s.config s.flight s.tick) (goes_to_server s.config) id
+pub coming_to_server : (s : SegmentView) (id : ℕ) → IsSound s → slice_get s.to_server 0 ≡ Some id → IsComing s.config (world_at s.server s.flight s.tick) (goes_to_server s.config) id
 coming_to_server s id i next =
-    let w = world_at s.config s.flight s.tick in
+    let w = world_at s.server s.flight s.tick in
     let P = IsComing s.config w (goes_to_server s.config) in
     let all = all_coming s.config w (goes_to_server s.config) (fates_of s.events) (timely_of s i) in
     all_first P s.to_server id next (all-suffix P (served_at s.tick (entries_kept s.flight s.kept)) s.to_server (subst (λ (l : List ℕ). AllByRecursion P l) (sym i.turns.server) all))
 
-pub coming_to_client : (s : SegmentView) (id : ℕ) → IsSound s → slice_get s.to_client 0 ≡ Some id → IsComing s.config (world_at s.config s.flight s.tick) (goes_to_client s.config) id
+pub coming_to_client : (s : SegmentView) (id : ℕ) → IsSound s → slice_get s.to_client 0 ≡ Some id → IsComing s.config (world_at s.server s.flight s.tick) (goes_to_client s.config) id
 coming_to_client s id i next =
-    let w = world_at s.config s.flight s.tick in
+    let w = world_at s.server s.flight s.tick in
     let P = IsComing s.config w (goes_to_client s.config) in
     let all = all_coming s.config w (goes_to_client s.config) (fates_of s.events) (timely_of s i) in
     all_first P s.to_client id next (all-suffix P (got_at s.tick (entries_kept s.flight s.kept)) s.to_client (subst (λ (l : List ℕ). AllByRecursion P l) (sym i.turns.client) all))
@@ -77,7 +79,7 @@ get-inside [] i x is = absurd (cc)
 get-inside (y ∷ ys) zero x is = omega arith
 get-inside (y ∷ ys) (suc i) x is = omega (arith, get-inside ys i x is)
 
-pub coming_inside : (s : SegmentView) (goes : Sender → Packet → Bool) (id : ℕ) → IsComing s.config (world_at s.config s.flight s.tick) goes id → id < length s.flight
+pub coming_inside : (s : SegmentView) (goes : Sender → Packet → Bool) (id : ℕ) → IsComing s.config (world_at s.server s.flight s.tick) goes id → id < length s.flight
 coming_inside s goes id come = omega (arith, get-inside (map flying_of s.flight) id come.f come.here.sent, length-map s.flight flying_of)
 
 get-some : {A : Type 0} (xs : List A) (i : ℕ) (d : A) → i < length xs → slice_get xs i ≡ Some (get_or xs i d)
@@ -89,10 +91,6 @@ pub found_in : {A : Type 0} (given xs : List A) (i : ℕ) (x : A) → given ≡ 
 found_in given xs i x same lt is = get-some xs i x lt ∙ ap (λ y. Some y) (ap (λ l. get_or l i x) (sym same) ∙ sym is)
 
 -- the replies don't look at the tick
-out-tick : (c : Config) (t u : ℕ) (packet : Packet) → out_of c t (start c).server packet ≡ out_of c u (start c).server packet
-out-tick c t u (Frame bytes) = refl
-out-tick c t u (Udp src dst body) = refl
-
 ids-take : (n m : ℕ) (kept : List Kept) → AllByRecursion (λ k. ids_end k.what ≤ m) kept → AllByRecursion (λ k. ids_end k.what ≤ m) (take n kept)
 ids-take zero m kept ids = tt
 ids-take (suc n) m [] ids = tt
@@ -115,17 +113,17 @@ flown_of tick fate packet = record { from = origin.Client; tick = tick; packet =
 abbrev pub sent_next : SegmentView → Packet → Option ℕ → SegmentView
 sent_next s packet fate = record s { flight = s.flight ++ flown_of s.tick fate packet ∷ []; kept = s.kept ++ record { tick = s.tick; what = Sent (length s.flight) } ∷ [] }
 
-pub sound_sent : (s : SegmentView) (packet : Packet) (fate : Option ℕ) → IsSound s → s.to_server ≡ [] → length s.flight < last_tick → delays_of s.events.fates fate ≡ fate_in s.events.fates (length s.flight)
+pub sound_sent : (s : SegmentView) (packet : Packet) (fate : Option ℕ) → IsSound s → Rests s → length s.flight < last_tick → delays_of s.events.fates fate ≡ fate_in s.events.fates (length s.flight)
     → IsSound (sent_next s packet fate)
 sound_sent s packet fate i ready room is =
     let f = flown_of s.tick fate packet in
     let here : 0 + length s.flight ≡ length s.flight = omega arith in
     record {
-      keeps = keep_sent s.config s.flight s.kept s.tick packet fate i.keeps;
-      turns = turn_sent s.config (fates_of s.events) s.flight s.kept s.tick f packet s.to_server s.to_client i.keeps i.turns (timely_of s i) refl ready (ap (λ (o : Option Flown). Send (packet_or o)) (get-last s.flight f));
+      keeps = keep_sent s.config s.server s.flight s.kept s.tick packet fate i.keeps;
+      turns = turn_sent s.config (fates_of s.events) s.server s.flight s.kept s.tick f packet s.to_server s.to_client i.keeps i.turns (timely_of s i) refl ready.served ready.sessions (ap (λ (o : Option Flown). Send (packet_or o)) (get-last s.flight f));
       fated = fated-push s.events.fates 0 s.flight f i.fated (is ∙ ap (λ (n : ℕ). fate_in s.events.fates n) (sym here));
       events = i.events;
-      life = i.life;
+      config = i.config;
       tick = i.tick;
       ids = omega (arith, length-append s.flight (f ∷ []));
       drained = drained-push s.drained s.kept _ i.drained;
@@ -149,8 +147,9 @@ passes_sent s packet fate i j =
 
 -- ---- the server is given a packet
 
-abbrev pub served_next : SegmentView → ℕ → Option ℕ → List Packet → SegmentView
-served_next s id fate packets = record s {
+abbrev pub served_next : SegmentView → ℕ → Option ℕ → Answer → SegmentView
+served_next s id fate a = let packets = packets_in a.out in record s {
+  server = changed s.config s.server a.change;
   flight = s.flight ++ replied s.tick fate packets;
   kept = s.kept ++ record { tick = s.tick; what = Served id (length s.flight) (length packets) } ∷ [];
   to_server = drop 1 s.to_server;
@@ -160,20 +159,21 @@ replied-fresh : (tick : ℕ) (fate : Option ℕ) (packets : List Packet) → All
 replied-fresh tick fate [] = tt
 replied-fresh tick fate (p ∷ ps) = (refl, replied-fresh tick fate ps)
 
-pub sound_served : (s : SegmentView) (id : ℕ) (f : Flown) (fate : Option ℕ) (out : Option Packet) → IsSound s → slice_get s.to_server 0 ≡ Some id → slice_get s.flight id ≡ Some f
-    → packets_in out ≡ out_of s.config 0 (start s.config).server f.packet → length s.flight < last_tick → delays_of s.events.fates fate ≡ fate_in s.events.fates (length s.flight)
-    → IsSound (served_next s id fate (packets_in out))
-sound_served s id f fate out i next at is room fated =
-    let packets = packets_in out in
+pub sound_served : (s : SegmentView) (id : ℕ) (f : Flown) (fate : Option ℕ) (a : Answer) → IsSound s → slice_get s.to_server 0 ≡ Some id → slice_get s.flight id ≡ Some f
+    → Answers s.config s.server a (reply s.config s.tick s.server f.packet) → length s.flight < last_tick → delays_of s.events.fates fate ≡ fate_in s.events.fates (length s.flight)
+    → IsSound (served_next s id fate a)
+sound_served s id f fate a i next at is room fated =
+    let packets = packets_in a.out in
+    let becomes = changed s.config s.server a.change in
     let more = replied s.tick fate packets in
     record {
-      keeps = keep_served s.config s.flight s.kept s.tick id f fate packets i.keeps at (coming_to_server s id i next) (is ∙ out-tick s.config 0 s.tick f.packet);
-      turns = turn_served s.config (fates_of s.events) s.flight more s.kept s.tick id (length s.flight) (length packets) s.to_server s.to_client i.keeps i.turns (timely_of s i) (replied-fresh s.tick fate packets) next;
-      fated = fated_out out;
+      keeps = keep_served s.config s.server becomes s.flight s.kept s.tick id f fate packets i.keeps at (coming_to_server s id i next) is.out is.next;
+      turns = turn_served s.config (fates_of s.events) s.server becomes s.flight more s.kept s.tick id (length s.flight) (length packets) s.to_server s.to_client i.keeps i.turns (timely_of s i) (replied-fresh s.tick fate packets) next;
+      fated = fated_out a.out;
       events = i.events;
-      life = i.life;
+      config = i.config;
       tick = i.tick;
-      ids = few_out out;
+      ids = few_out a.out;
       drained = drained-push s.drained s.kept _ i.drained;
       calm = i.calm;
     }
@@ -188,8 +188,9 @@ sound_served s id f fate out i next at is room fated =
     few_out None = omega (arith, i.ids, length-append s.flight [])
     few_out (Some p) = omega (arith, room, length-append s.flight (reply_of s.tick fate p ∷ []))
 
-pub passes_served : (s : SegmentView) (id : ℕ) (fate : Option ℕ) (packets : List Packet) → IsSound s → IsSound (served_next s id fate packets) → Passes s (served_next s id fate packets) (Serve id ∷ [])
-passes_served s id fate packets i j =
+pub passes_served : (s : SegmentView) (id : ℕ) (fate : Option ℕ) (a : Answer) → IsSound s → IsSound (served_next s id fate a) → Passes s (served_next s id fate a) (Serve id ∷ [])
+passes_served s id fate a i j =
+    let packets = packets_in a.out in
     let more = replied s.tick fate packets in
     record {
       config = refl;
@@ -199,7 +200,88 @@ passes_served s id fate packets i j =
       faults = refl;
       broken = refl;
       lawful = j.keeps.allowed;
-      bounded = bounded_of (served_next s id fate packets) j;
+      bounded = bounded_of (served_next s id fate a) j;
+      stood = ap (λ (w : World). w.tick) i.keeps.world;
+    }
+
+-- ---- a session has its turn
+
+abbrev pub again_next : SegmentView → Sending → Option ℕ → SegmentView
+again_next s session fate = record s {
+  server = record s.server { sessions = with_session (sent_again s.tick (session_of s.config session)) s.server.sessions };
+  flight = s.flight ++ reply_of s.tick fate (block_packet s.config (session_of s.config session)) ∷ [];
+  kept = s.kept ++ record { tick = s.tick; what = Again session.number (length s.flight) } ∷ [];
+}
+
+pub sound_again : (s : SegmentView) (session : Sending) (fate : Option ℕ) → IsSound s → s.to_server ≡ [] → IsNext s.config s.server s.tick session → session.sends < s.config.tries
+    → length s.flight < last_tick → delays_of s.events.fates fate ≡ fate_in s.events.fates (length s.flight) → IsSound (again_next s session fate)
+sound_again s session fate i served n few room is =
+    let f = reply_of s.tick fate (block_packet s.config (session_of s.config session)) in
+    let here : 0 + length s.flight ≡ length s.flight = omega arith in
+    let next = again_next s session fate in
+    record {
+      keeps = keep_again s.config s.server s.flight s.kept s.tick session.number fate (session_of s.config session) i.keeps n.found n.due few;
+      turns = turn_again s.config (fates_of s.events) s.server next.server s.flight s.kept s.tick session.number f s.to_server s.to_client i.keeps i.turns (timely_of s i) refl served (n.later, n.next);
+      fated = fated-push s.events.fates 0 s.flight f i.fated (is ∙ ap (λ (n : ℕ). fate_in s.events.fates n) (sym here));
+      events = i.events;
+      config = i.config;
+      tick = i.tick;
+      ids = omega (arith, room, length-append s.flight (f ∷ []));
+      drained = drained-push s.drained s.kept _ i.drained;
+      calm = i.calm;
+    }
+
+pub passes_again : (s : SegmentView) (session : Sending) (fate : Option ℕ) → IsSound s → IsSound (again_next s session fate) → Passes s (again_next s session fate) (Data session.number ∷ [])
+passes_again s session fate i j =
+    let f = reply_of s.tick fate (block_packet s.config (session_of s.config session)) in
+    record {
+      config = refl;
+      events = refl;
+      steps = kept-push s.flight (f ∷ []) s.kept s.tick (Again session.number (length s.flight)) i.keeps.ids;
+      drained = text-push s (f ∷ []) (record { tick = s.tick; what = Again session.number (length s.flight) }) i;
+      faults = refl;
+      broken = refl;
+      lawful = j.keeps.allowed;
+      bounded = bounded_of (again_next s session fate) j;
+      stood = ap (λ (w : World). w.tick) i.keeps.world;
+    }
+
+abbrev pub ended_next : SegmentView → ℕ → SegmentView
+ended_next s number = record s {
+  server = record s.server { sessions = without_session number s.server.sessions };
+  kept = s.kept ++ record { tick = s.tick; what = Ended number } ∷ [];
+}
+
+pub sound_ended : (s : SegmentView) (session : Sending) → IsSound s → s.to_server ≡ [] → IsNext s.config s.server s.tick session → s.config.tries ≤ session.sends → IsSound (ended_next s session.number)
+sound_ended s session i served n enough =
+    let next = ended_next s session.number in
+    record {
+      keeps = keep_ended s.config s.server s.flight s.kept s.tick session.number (session_of s.config session) i.keeps n.found n.due enough;
+      turns = turn_ended s.config (fates_of s.events) s.server next.server s.flight s.kept s.tick session.number s.to_server s.to_client i.keeps i.turns (timely_of s i) served (n.later, n.next);
+      fated = i.fated;
+      events = i.events;
+      config = i.config;
+      tick = i.tick;
+      ids = i.ids;
+      drained = drained-push s.drained s.kept _ i.drained;
+      calm = i.calm;
+    }
+
+pub passes_ended : (s : SegmentView) (number : ℕ) → IsSound s → IsSound (ended_next s number) → Passes s (ended_next s number) (End number ∷ [])
+passes_ended s number i j =
+    let entry : Kept = record { tick = s.tick; what = Ended number } in
+    let none = append-nil s.flight in
+    record {
+      config = refl;
+      events = refl;
+      steps =
+          ap (λ (l : List Flown). steps_kept l (s.kept ++ entry ∷ []) s.tick) (sym none)
+          ∙ kept-push s.flight [] s.kept s.tick (Ended number) i.keeps.ids;
+      drained = ap (λ (l : List Flown). record_text (entries_kept l (take s.drained (s.kept ++ entry ∷ [])))) (sym none) ∙ text-push s [] entry i;
+      faults = refl;
+      broken = refl;
+      lawful = j.keeps.allowed;
+      bounded = bounded_of (ended_next s number) j;
       stood = ap (λ (w : World). w.tick) i.keeps.world;
     }
 
@@ -211,15 +293,15 @@ got_next s id handed = record s { kept = s.kept ++ record { tick = s.tick; what 
 got_step : (flight : List Flown) (id : ℕ) (f : Flown) → slice_get flight id ≡ Some f → Get id (packet_or (slice_get (flight ++ []) id)) ≡ Get id f.packet
 got_step flight id f at = ap (λ (l : List Flown). Get id (packet_or (slice_get l id))) (append-nil flight) ∙ ap (λ (o : Option Flown). Get id (packet_or o)) at
 
-pub sound_got : (s : SegmentView) (id handed : ℕ) (f : Flown) → IsSound s → s.to_server ≡ [] → slice_get s.to_client 0 ≡ Some id → slice_get s.flight id ≡ Some f → IsSound (got_next s id handed)
+pub sound_got : (s : SegmentView) (id handed : ℕ) (f : Flown) → IsSound s → Rests s → slice_get s.to_client 0 ≡ Some id → slice_get s.flight id ≡ Some f → IsSound (got_next s id handed)
 sound_got s id handed f i ready next at =
     let come = coming_to_client s id i next in
     record {
-      keeps = keep_got s.config s.flight s.kept s.tick id f i.keeps at (coming_inside s (goes_to_client s.config) id come) come;
-      turns = turn_got s.config (fates_of s.events) s.flight s.kept s.tick id f.packet s.to_server s.to_client i.keeps i.turns (timely_of s i) ready next (got_step s.flight id f at);
+      keeps = keep_got s.config s.server s.flight s.kept s.tick id f i.keeps at (coming_inside s (goes_to_client s.config) id come) come;
+      turns = turn_got s.config (fates_of s.events) s.server s.flight s.kept s.tick id f.packet s.to_server s.to_client i.keeps i.turns (timely_of s i) ready.served ready.sessions next (got_step s.flight id f at);
       fated = i.fated;
       events = i.events;
-      life = i.life;
+      config = i.config;
       tick = i.tick;
       ids = i.ids;
       drained = drained-push s.drained s.kept _ i.drained;
@@ -254,15 +336,15 @@ calm_before : (s : SegmentView) (t : ℕ) → s.tick < last_tick → (s.faults �
 calm_before s t early (inl none) = inl none
 calm_before s t early (inr late) = absurd (omega arith)
 
-pub sound_tick : (s : SegmentView) (to_server to_client : List ℕ) → IsSound s → s.tick < last_tick → s.to_server ≡ [] → s.to_client ≡ []
-    → to_server ≡ due_to_server s.config (fates_of s.events) (world_at s.config s.flight (s.tick + 1)) → to_client ≡ due_to_client s.config (fates_of s.events) (world_at s.config s.flight (s.tick + 1))
+pub sound_tick : (s : SegmentView) (to_server to_client : List ℕ) → IsSound s → s.tick < last_tick → Rests s → s.to_client ≡ []
+    → to_server ≡ due_to_server s.config (fates_of s.events) (world_at s.server s.flight (s.tick + 1)) → to_client ≡ due_to_client s.config (fates_of s.events) (world_at s.server s.flight (s.tick + 1))
     → IsSound (tick_next s to_server to_client)
-sound_tick s to_server to_client i early no_server no_client server_is client_is = record {
-  keeps = keep_tick s.config s.flight s.kept s.tick i.keeps;
-  turns = turn_tick s.config (fates_of s.events) s.flight s.kept s.tick s.to_server s.to_client to_server to_client i.keeps i.turns no_server no_client server_is client_is;
+sound_tick s to_server to_client i early ready no_client server_is client_is = record {
+  keeps = keep_tick s.config s.server s.flight s.kept s.tick i.keeps;
+  turns = turn_tick s.config (fates_of s.events) s.server s.flight s.kept s.tick s.to_server s.to_client to_server to_client i.keeps i.turns ready.served ready.sessions no_client server_is client_is;
   fated = i.fated;
   events = i.events;
-  life = i.life;
+  config = i.config;
   tick = omega arith;
   ids = i.ids;
   drained = i.drained;
@@ -299,14 +381,35 @@ sent_is s packet fate flight kept id f k here =
     let k2 : kept ≡ s.kept ++ record { tick = s.tick; what = Sent (length s.flight) } ∷ [] = k ∙ ap (λ (n : ℕ). s.kept ++ record { tick = s.tick; what = Sent n } ∷ []) here in
     λ i. record s { flight = f i; kept = k2 i }
 
-pub served_is : (s : SegmentView) (id : ℕ) (fate : Option ℕ) (packets : List Packet) (flight : List Flown) (kept : List Kept) (to_server : List ℕ) (first : ℕ)
-    → flight ≡ s.flight ++ replied s.tick fate packets → kept ≡ s.kept ++ record { tick = s.tick; what = Served id first (length packets) } ∷ [] → first ≡ length s.flight → to_server ≡ drop 1 s.to_server
-    → record s { flight = flight; kept = kept; to_server = to_server } ≡ served_next s id fate packets
-served_is s id fate packets flight kept to_server first f k here left =
+pub served_is : (s : SegmentView) (id : ℕ) (fate : Option ℕ) (a : Answer) (server : ServerView) (flight : List Flown) (kept : List Kept) (to_server : List ℕ) (first : ℕ)
+    → server ≡ record { config = s.config; part = changed s.config s.server a.change } → flight ≡ s.flight ++ replied s.tick fate (packets_in a.out)
+    → kept ≡ s.kept ++ record { tick = s.tick; what = Served id first (length (packets_in a.out)) } ∷ [] → first ≡ length s.flight → to_server ≡ drop 1 s.to_server
+    → record s { config = server.config; server = server.part; flight = flight; kept = kept; to_server = to_server } ≡ served_next s id fate a
+served_is s id fate a server flight kept to_server first b f k here left =
+    let packets = packets_in a.out in
     let k2 : kept ≡ s.kept ++ record { tick = s.tick; what = Served id (length s.flight) (length packets) } ∷ [] =
     k ∙ ap (λ (n : ℕ). s.kept ++ record { tick = s.tick; what = Served id n (length packets) } ∷ []) here in
-    λ i. record s { flight = f i; kept = k2 i; to_server = left i }
+    λ i. record s { config = (b i).config; server = (b i).part; flight = f i; kept = k2 i; to_server = left i }
 
 pub got_is : (s : SegmentView) (id handed : ℕ) (kept : List Kept) (to_client : List ℕ) → kept ≡ s.kept ++ record { tick = s.tick; what = Got id } ∷ [] → to_client ≡ drop 1 s.to_client
     → record s { kept = kept; to_client = to_client; handed = handed } ≡ got_next s id handed
 got_is s id handed kept to_client k left = λ i. record s { kept = k i; to_client = left i; handed = handed }
+
+pub again_is : (s : SegmentView) (session : Sending) (fate : Option ℕ) (packet : Packet) (server : ServerView) (flight : List Flown) (kept : List Kept) (id : ℕ)
+    → packet ≡ block_packet s.config (session_of s.config session)
+    → server ≡ record { config = s.config; part = record s.server { sessions = with_session (sent_again s.tick (session_of s.config session)) s.server.sessions } }
+    → flight ≡ s.flight ++ reply_of s.tick fate packet ∷ [] → kept ≡ s.kept ++ record { tick = s.tick; what = Again session.number id } ∷ [] → id ≡ length s.flight
+    → record s { config = server.config; server = server.part; flight = flight; kept = kept } ≡ again_next s session fate
+again_is s session fate packet server flight kept id block b f k here =
+    let f2 : flight ≡ s.flight ++ reply_of s.tick fate (block_packet s.config (session_of s.config session)) ∷ [] = f ∙ ap (λ (p : Packet). s.flight ++ reply_of s.tick fate p ∷ []) block in
+    let k2 : kept ≡ s.kept ++ record { tick = s.tick; what = Again session.number (length s.flight) } ∷ [] = k ∙ ap (λ (n : ℕ). s.kept ++ record { tick = s.tick; what = Again session.number n } ∷ []) here in
+    λ i. record s { config = (b i).config; server = (b i).part; flight = f2 i; kept = k2 i }
+
+pub ended_is : (s : SegmentView) (number : ℕ) (server : ServerView) (kept : List Kept) → server ≡ record { config = s.config; part = record s.server { sessions = without_session number s.server.sessions } }
+    → kept ≡ s.kept ++ record { tick = s.tick; what = Ended number } ∷ [] → record s { config = server.config; server = server.part; kept = kept } ≡ ended_next s number
+ended_is s number server kept b k = λ i. record s { config = (b i).config; server = (b i).part; kept = k i }
+
+-- a refused change leaves the segment as it was
+pub refused_is : (s : SegmentView) (server : ServerView) (flight : List Flown) (kept : List Kept) → server ≡ record { config = s.config; part = s.server } → flight ≡ s.flight → kept ≡ s.kept
+    → record s { config = server.config; server = server.part; flight = flight; kept = kept } ≡ s
+refused_is s server flight kept b f k = λ i. record s { config = (b i).config; server = (b i).part; flight = f i; kept = k i }

@@ -6,12 +6,12 @@ use Rattle.sd_outside.specs.declared.packet.Packet.{Packet}
 use Rattle.sd_link.specs.declared.config.Config.{Config}
 use Rattle.sd_link.specs.declared.link.LinkError.{LinkError}
 use Rattle.sd_link.specs.World.{World}
-use Rattle.sd_link.specs.Steps.{Step, Tick, Send, Serve, Get, after, run, world_of}
+use Rattle.sd_link.specs.Steps.{Step, Tick, Send, Serve, Data, End, Get, after, run, world_of}
 use Rattle.sd_link.specs.Parts.{sends_in, got_in}
 use Rattle.sd_link.specs.Link.{GoesOn, Moves, TicksBefore, Receives, IsBounded, NothingWaits}
 use Rattle.sd_link.proofs.Histories.{sends-append, got-append, before-append, world-goes, goes_nowhere, settled-goes}
 use Rattle.sd_segment.specs.Segment.{SegmentView, history_of, text_drained}
-use Rattle.sd_segment.specs.Passing.{Passes, WentOn, AllServes, Advances, Waits}
+use Rattle.sd_segment.specs.Passing.{Passes, WentOn, AllServes, TakesTurn, Advances, Waits}
 
 -- ---- one part after another
 
@@ -42,6 +42,8 @@ went_then a b c xs ys (inl same) second =
 serves-append : (xs ys : List Step) → AllServes xs → AllServes ys → AllServes (xs ++ ys)
 serves-append [] ys first second = second
 serves-append (Serve id ∷ xs) ys first second = serves-append xs ys first second
+serves-append (Data number ∷ xs) ys first second = serves-append xs ys first second
+serves-append (End number ∷ xs) ys first second = serves-append xs ys first second
 serves-append (Tick ∷ xs) ys first second = absurd first
 serves-append (Send packet ∷ xs) ys first second = absurd first
 serves-append (Get id packet ∷ xs) ys first second = absurd first
@@ -56,7 +58,19 @@ serves_none s = ([], inl (refl, refl), tt)
 pub serves_more : (old mid new : SegmentView) (id : ℕ) → Serves old mid → Passes mid new (Serve id ∷ []) → Serves old new
 serves_more old mid new id m p = (m.0 ++ (Serve id ∷ []), inr (went_then old mid new m.0 (Serve id ∷ []) m.1 p), serves-append m.0 (Serve id ∷ []) m.2 tt)
 
--- a tick passed, and then packets came to the server
+-- one session more had its turn
+pub serves_turn : (old mid new : SegmentView) → Serves old mid → TakesTurn mid new → Serves old new
+serves_turn old mid new m (step, p, serves) = (m.0 ++ (step ∷ []), inr (went_then old mid new m.0 (step ∷ []) m.1 p), serves-append m.0 (step ∷ []) m.2 serves)
+
+-- one part after another
+pub serves_then : (old mid new : SegmentView) → Serves old mid → Serves mid new → Serves old new
+serves_then old mid new m (more, went, serves) = of went
+  where
+    of : WentOn mid new more → Serves old new
+    of (inl same) = subst (λ (v : SegmentView). Serves old v) (sym same.1) m
+    of (inr p) = (m.0 ++ more, inr (went_then old mid new m.0 more m.1 p), serves-append m.0 more m.2 serves)
+
+-- a tick passed, and then the server did what was due to it
 pub advances : (old mid new : SegmentView) → Passes old mid (Tick ∷ []) → Serves mid new → Advances old new
 advances old mid new p m = (m.0, passes_went old mid new (Tick ∷ []) m.0 p m.1, m.2)
 
@@ -87,6 +101,8 @@ went_drained old new part (inl same) = ap text_drained same.1
 serves-silent : (steps : List Step) → AllServes steps → sends_in steps ≡ []
 serves-silent [] all = refl
 serves-silent (Serve id ∷ steps) all = serves-silent steps all
+serves-silent (Data number ∷ steps) all = serves-silent steps all
+serves-silent (End number ∷ steps) all = serves-silent steps all
 serves-silent (Tick ∷ steps) all = absurd all
 serves-silent (Send packet ∷ steps) all = absurd all
 serves-silent (Get id packet ∷ steps) all = absurd all
@@ -94,6 +110,8 @@ serves-silent (Get id packet ∷ steps) all = absurd all
 serves-got : (steps : List Step) → AllServes steps → got_in steps ≡ []
 serves-got [] all = refl
 serves-got (Serve id ∷ steps) all = serves-got steps all
+serves-got (Data number ∷ steps) all = serves-got steps all
+serves-got (End number ∷ steps) all = serves-got steps all
 serves-got (Tick ∷ steps) all = absurd all
 serves-got (Send packet ∷ steps) all = absurd all
 serves-got (Get id packet ∷ steps) all = absurd all
@@ -101,6 +119,8 @@ serves-got (Get id packet ∷ steps) all = absurd all
 serves-ticks : (until : ℕ) (c : Config) (w : World) (steps : List Step) → AllServes steps → TicksBefore until c w steps
 serves-ticks until c w [] all = tt
 serves-ticks until c w (Serve id ∷ steps) all = serves-ticks until c (after c w (Serve id)) steps all
+serves-ticks until c w (Data number ∷ steps) all = serves-ticks until c (after c w (Data number)) steps all
+serves-ticks until c w (End number ∷ steps) all = serves-ticks until c (after c w (End number)) steps all
 serves-ticks until c w (Tick ∷ steps) all = absurd all
 serves-ticks until c w (Send packet ∷ steps) all = absurd all
 serves-ticks until c w (Get id packet ∷ steps) all = absurd all

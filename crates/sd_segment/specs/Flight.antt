@@ -31,10 +31,6 @@ reply_of tick fate packet = record { from = origin.Server; tick = tick; packet =
 abbrev pub replied : ℕ → Option ℕ → List Packet → List Flown
 replied tick fate packets = map (reply_of tick fate) packets
 
-abbrev pub packets_in : Option Packet → List Packet
-packets_in None = []
-packets_in (Some packet) = packet ∷ []
-
 -- which packets go to this end
 abbrev pub goes_to : End → Config → Sender → Packet → Bool
 goes_to ends.Server = goes_to_server

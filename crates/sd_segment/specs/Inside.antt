@@ -4,8 +4,9 @@ use Rattle.sd_segment.specs.Segment.{SegmentView}
 
 abbrev pub view_of : Inside → SegmentView
 view_of s = record {
-  config = s.config;
+  config = s.server.config;
   events = s.events;
+  server = s.server.part;
   flight = s.flight.items;
   kept = s.kept.items;
   tick = s.tick;

@@ -1,17 +1,19 @@
 -- What a segment keeps of what happened, as steps and as entries of the record.
 use Rattle.std.specs.Prelude.{ℕ, ◌+◌, ◌-◌, List, [], ◌∷◌, ◌++◌, replicate, take, drop, slice_get}
 use Rattle.std.specs.List.{flat_map}
-use Rattle.sd_link.specs.Steps.{Step, Tick, Send, Serve, Get, Entry}
+use Rattle.sd_link.specs.Steps.{Step, Tick, Send, Serve, Data, End, Get, Entry}
 use Rattle.sd_link.specs.Steps as steps
 use Rattle.sd_segment.specs.declared.flown.Flown.{Flown}
 use Rattle.sd_segment.specs.declared.flown.Kept.{Kept}
 use Rattle.sd_segment.specs.declared.flown.What.{What}
-use Rattle.sd_segment.specs.declared.flown.What.TheVariants.{Sent, Served, Got}
+use Rattle.sd_segment.specs.declared.flown.What.TheVariants.{Sent, Served, Again, Ended, Got}
 use Rattle.sd_segment.specs.Flight.{packet_or}
 
 abbrev pub step_of : List Flown → What → Step
 step_of flight (Sent id) = Send (packet_or (slice_get flight id))
 step_of flight (Served id first count) = Serve id
+step_of flight (Again number id) = Data number
+step_of flight (Ended number) = End number
 step_of flight (Got id) = Get id (packet_or (slice_get flight id))
 
 -- what happened, with the ticks between
@@ -36,6 +38,8 @@ sent_entries tick id (flown ∷ more) = steps.Sent tick id flown.packet ∷ sent
 abbrev pub entries_of_kept : List Flown → ℕ → What → List Entry
 entries_of_kept flight tick (Sent id) = sent_entries tick id (take 1 (drop id flight))
 entries_of_kept flight tick (Served id first count) = steps.Served tick id ∷ sent_entries tick first (take count (drop first flight))
+entries_of_kept flight tick (Again number id) = sent_entries tick id (take 1 (drop id flight))
+entries_of_kept flight tick (Ended number) = []
 entries_of_kept flight tick (Got id) = steps.Got tick id ∷ []
 
 abbrev pub entries_kept : List Flown → List Kept → List Entry
@@ -45,4 +49,6 @@ entries_kept flight kept = flat_map (λ k. entries_of_kept flight k.tick k.what)
 abbrev pub ids_end : What → ℕ
 ids_end (Sent id) = id + 1
 ids_end (Served id first count) = first + count
+ids_end (Again number id) = id + 1
+ids_end (Ended number) = 0
 ids_end (Got id) = id + 1

@@ -1,3 +1,4 @@
+pub mod Server
 pub mod Flight
 pub mod Kept
 pub mod Segment

@@ -1,7 +1,7 @@
 -- How a segment goes on.
 use Rattle.std.specs.Prelude.{◌≡◌, ◌⊎◌, ℕ, List, [], ◌∷◌, ◌++◌, Option, Some, None}
 use Rattle.sd_outside.specs.declared.packet.Packet.{Packet}
-use Rattle.sd_link.specs.Steps.{Step, Tick, Send, Serve, Get, IsLawfulSoFar, world_of}
+use Rattle.sd_link.specs.Steps.{Step, Tick, Send, Serve, Data, End, Get, IsLawfulSoFar, world_of}
 use Rattle.sd_link.specs.Parts.{sends_in, got_in}
 use Rattle.sd_link.specs.Link.{TicksBefore, IsBounded}
 use Rattle.sd_segment.specs.Segment.{SegmentView, history_of, text_drained}
@@ -20,17 +20,23 @@ pub record Passes (old new : SegmentView) (part : List Step) : Type 0 where
   -- and it stood where its world did
   pub stood : (world_of (history_of old)).tick ≡ old.tick
 
--- packets come to the server, and nothing else happens
+-- packets come to the server, its sessions have their turns, and nothing else happens
 abbrev pub AllServes : List Step → Type 0
 AllServes [] = Unit {0}
 AllServes (Serve id ∷ steps) = AllServes steps
+AllServes (Data number ∷ steps) = AllServes steps
+AllServes (End number ∷ steps) = AllServes steps
 AllServes (Tick ∷ steps) = ⊥
 AllServes (Send packet ∷ steps) = ⊥
 AllServes (Get id packet ∷ steps) = ⊥
 
--- one tick passed, and packets came to the server
+-- one tick passed, and the server did what was due to it
 abbrev pub Advances : SegmentView → SegmentView → Type 0
 Advances old new = (served : List Step) × Passes old new (Tick ∷ served) × AllServes served
+
+-- a session had its turn
+abbrev pub TakesTurn : SegmentView → SegmentView → Type 0
+TakesTurn old new = (step : Step) × Passes old new (step ∷ []) × AllServes (step ∷ [])
 
 -- a packet was handed out, or none waits
 abbrev pub HandsOut : SegmentView → SegmentView → Option Packet → Type 0

@@ -4,9 +4,10 @@ use Rattle.std.specs.Prelude.{◌≡◌, ◌⊎◌, ℕ, ◌≤◌, Bool, List, 
 use Rattle.sd_link.specs.declared.config.Config.{Config}
 use Rattle.sd_link.specs.declared.events.Events.{Events}
 use Rattle.sd_link.specs.Events.{Fates, fates_of, IsEvents}
-use Rattle.sd_link.specs.World.{World, start}
+use Rattle.sd_link.specs.Config.{IsConfig}
+use Rattle.sd_link.specs.World.{World, ServerPart, start}
 use Rattle.sd_link.specs.Steps.{History, run, record_of, AllAllowed}
-use Rattle.sd_link.specs.Lawful.{AllInTurn, served_at, got_at, due_to_server, due_to_client}
+use Rattle.sd_link.specs.Lawful.{AllInTurn, served_at, got_at, due_to_server, due_to_client, due_sessions}
 use Rattle.sd_link.specs.Link.{last_tick}
 use Rattle.sd_link.specs.Printing.{record_text}
 use Rattle.sd_segment.specs.declared.flown.Flown.{Flown}
@@ -18,6 +19,7 @@ use Rattle.sd_segment.specs.Kept.{steps_kept, last_kept, entries_kept, ids_end}
 pub record SegmentView : Type 0 where
   pub config : Config
   pub events : Events
+  pub server : ServerPart
   -- all packets that were sent, by their ids
   pub flight : List Flown
   -- all that happened
@@ -42,31 +44,36 @@ abbrev pub text_drained : SegmentView → List ℕ
 text_drained s = record_text (entries_kept s.flight (take s.drained s.kept))
 
 -- the world that a segment is in
-abbrev pub world_at : Config → List Flown → ℕ → World
-world_at c flight tick = record { tick = tick; server = (start c).server; doubt = None; flight = map flying_of flight }
+abbrev pub world_at : ServerPart → List Flown → ℕ → World
+world_at part flight tick = record { tick = tick; server = part; doubt = None; flight = map flying_of flight }
+
+-- the server is done with the segment's tick
+pub record Rests (s : SegmentView) : Type 0 where
+  pub served : s.to_server ≡ []
+  pub sessions : due_sessions s.config (world_at s.server s.flight s.tick) ≡ []
 
 -- what a segment keeps is a history of its world, and its record
-pub record Keeps (c : Config) (flight : List Flown) (kept : List Kept) (tick : ℕ) : Type 0 where
-  pub world : run c (start c) (steps_kept flight kept tick) ≡ world_at c flight tick
+pub record Keeps (c : Config) (part : ServerPart) (flight : List Flown) (kept : List Kept) (tick : ℕ) : Type 0 where
+  pub world : run c (start c) (steps_kept flight kept tick) ≡ world_at part flight tick
   pub allowed : AllAllowed c (start c) (steps_kept flight kept tick)
   pub entries : record_of c (start c) (steps_kept flight kept tick) ≡ entries_kept flight kept
   pub ids : AllByRecursion (λ k. ids_end k.what ≤ length flight) kept
   pub ticks : last_kept 0 kept ≤ tick
 
 -- each step came in its turn, and what is due at this tick has come or is still to come
-pub record Turns (c : Config) (fates : Fates) (flight : List Flown) (kept : List Kept) (tick : ℕ) (to_server to_client : List ℕ) : Type 0 where
+pub record Turns (c : Config) (fates : Fates) (part : ServerPart) (flight : List Flown) (kept : List Kept) (tick : ℕ) (to_server to_client : List ℕ) : Type 0 where
   pub in_turn : AllInTurn c fates (start c) [] (steps_kept flight kept tick)
-  pub server : served_at tick (entries_kept flight kept) ++ to_server ≡ due_to_server c fates (world_at c flight tick)
-  pub client : got_at tick (entries_kept flight kept) ++ to_client ≡ due_to_client c fates (world_at c flight tick)
+  pub server : served_at tick (entries_kept flight kept) ++ to_server ≡ due_to_server c fates (world_at part flight tick)
+  pub client : got_at tick (entries_kept flight kept) ++ to_client ≡ due_to_client c fates (world_at part flight tick)
   pub past : AllByRecursion (λ k. k.tick ≤ tick) kept
 
 -- what holds of every segment
 pub record IsSound (s : SegmentView) : Type 0 where
-  pub keeps : Keeps s.config s.flight s.kept s.tick
-  pub turns : Turns s.config (fates_of s.events) s.flight s.kept s.tick s.to_server s.to_client
+  pub keeps : Keeps s.config s.server s.flight s.kept s.tick
+  pub turns : Turns s.config (fates_of s.events) s.server s.flight s.kept s.tick s.to_server s.to_client
   pub fated : AllFated s.events.fates 0 s.flight
   pub events : IsEvents s.config s.events
-  pub life : 2 ≤ s.config.life
+  pub config : IsConfig s.config
   pub tick : s.tick ≤ last_tick
   pub ids : length s.flight ≤ last_tick
   pub drained : s.drained ≤ length s.kept

@@ -32,6 +32,15 @@ pub enum What {
         first: usize,
         count: usize,
     },
+    /// The session with this number sent its present block again.
+    Again {
+        number: u64,
+        id: usize,
+    },
+    /// The session with this number ended, since its block was sent often enough.
+    Ended {
+        number: u64,
+    },
     /// A packet came to the client.
     Got {
         id: usize,

@@ -13,6 +13,9 @@ mod pushing;
 mod queue;
 mod reply;
 mod segment;
+mod server;
+mod sessions;
+mod tftp;
 
 pub use segment::Segment;
 

@@ -50,6 +50,10 @@ fn write_kept(
             write_served(alloc, kept.tick, id as u64, text)?;
             write_all_sent(alloc, kept.tick, first, stretch(flight, first, count), text)
         }
+        What::Again { id, .. } => {
+            write_all_sent(alloc, kept.tick, id, stretch(flight, id, 1), text)
+        }
+        What::Ended { .. } => Ok(()),
         What::Got { id } => write_got(alloc, kept.tick, id as u64, text),
     }
 }

@@ -5,7 +5,8 @@ ghost use Rattle.sd_link.specs.Lawful.{IsLawful, IsFrontOf};
 ghost use Rattle.sd_link.specs.Link.{last_tick, IsBounded, NothingWaits};
 ghost use Rattle.sd_link.specs.Steps.{world_of, whole_record};
 ghost use Rattle.sd_link.specs.Printing.{record_text};
-ghost use Rattle.sd_segment.specs.Segment.{history_of, text_drained};
+ghost use Rattle.sd_link.specs.Config.{IsConfig};
+ghost use Rattle.sd_segment.specs.Segment.{history_of, text_drained, Rests};
 
 mod link;
 mod steps;
@@ -13,18 +14,20 @@ mod waiting;
 
 use crate::flown::{Flown, Kept};
 use crate::queue::Queue;
+use crate::server::Server;
 use sd_link::{Config, Events};
 use std::alloc::Global;
 use std::marker::Model;
 
 /// The network, with all that happened in it since tick 0. It is the client's link.
 ///
-/// At each tick the server is given first what is due to it, and then the client gets what is due and may send. After a
+/// At each tick the server is given first what is due to it, then its sessions send again what is due, and then the client gets
+/// what is due and may send. After a
 /// `recv` that found no memory the rest of that tick is lost, so every later `send` and `recv` answers `NoMemory`.
 #[derive(Drop)]
 pub struct Segment {
     alloc: Global,
-    config: Config,
+    server: Server,
     events: Events,
     /// Every packet that was sent, by its id.
     flight: Vec<Flown>,
@@ -58,7 +61,7 @@ impl Model for Segment {
 impl Segment {
     /// A network at tick 0, in which nothing was sent. It takes no memory.
     pub fn new(alloc: Global, config: Config, events: Events) -> Segment
-        requires life { 2 ≤ config.life }
+        requires config { IsConfig config }
         requires events { IsEvents config events }
         ensures told { history_of result ≡ record { config = config; events = events; steps = [] } }
         ensures drained { text_drained result ≡ [] }
@@ -69,7 +72,7 @@ impl Segment {
     {
         Segment {
             alloc,
-            config,
+            server: Server::new(alloc, config),
             events,
             flight: Vec::new(alloc),
             kept: Vec::new(alloc),
@@ -101,18 +104,19 @@ impl Segment {
         ensures stood { (world_of (history_of self.now)).tick ≡ self.now.tick }
         ensures bound { result ≤ last_tick }
         ensures bounded { IsBounded (history_of self.now) }
+        ensures front { IsFrontOf (text_drained self.now) (record_text (whole_record (history_of self.now))) }
         // Where nothing is still to come to the client, all that is due to it has come.
         ensures settled { self.now.to_client ≡ [] → NothingWaits (history_of self.now) }
     {
         self.tick
     }
 
-    /// Whether the client may send and receive: no receive found no memory, and the server was given all that is due to it.
+    /// Whether the client may send and receive: no receive found no memory, and the server is done with this tick.
     pub(crate) fn is_ready(&self) -> bool
-        ensures ready { IsTrue result → self.now.to_server ≡ [] }
+        ensures ready { IsTrue result → Rests self.now }
         ensures whole { IsTrue self.now.broken → IsFalse result }
         ensures bounded { IsBounded (history_of self.now) }
     {
-        !self.broken && self.to_server.next().is_none()
+        !self.broken && self.to_server.next().is_none() && self.server.next_due(self.tick).is_none()
     }
 }

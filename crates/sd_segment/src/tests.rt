@@ -1,6 +1,7 @@
 //! The segment under a small client, which follows schedules.
 
 mod schedules;
+mod transfers;
 
 use crate::Segment;
 use schedules::SCHEDULES;
@@ -9,6 +10,7 @@ use sd_outside::{ByteList, NoMemory};
 use sd_script::{read_packet_line, read_script};
 use std::alloc::Global;
 use std::test::Fail;
+use transfers::TRANSFERS;
 
 const HEAD: &[u8] =
     b"\ntries 4\nwait 5\npages 1\nserver 080020000001 192.168.1.1 boss\nclient 080020010203 192.168.1.2 sparky example 192.168.1.1\n";
@@ -26,6 +28,12 @@ const TO_SERVER: &[u8] = b"udp 192.168.1.2:1021 192.168.1.1:111 01";
 const TO_ALL: &[u8] = b"udp 192.168.1.2:1021 255.255.255.255:111 02";
 
 const ASTRAY: &[u8] = b"udp 192.168.1.2:1021 192.168.1.77:111 -";
+
+const FROM_CLIENT: &[u8] = b"udp 192.168.1.2:2048 192.168.1.1:";
+
+const FROM_SERVER: &[u8] = b"udp 192.168.1.1:";
+
+const TO_CLIENT: &[u8] = b" 192.168.1.2:2048 ";
 
 fn send(alloc: Global, segment: &mut Segment, line: &[u8]) -> Result<(), LinkError> {
     match read_packet_line(alloc, line) {
@@ -92,7 +100,7 @@ fn record_of(alloc: Global, life: &[u8], events: &[u8], acts: &[u8]) -> Option<B
     Some(record)
 }
 
-/// A record without the abbreviations of the table.
+/// A text without the abbreviations of the tables.
 fn whole(alloc: Global, record: &[u8]) -> Result<ByteList, NoMemory> {
     let mut text = ByteList::empty(alloc);
     for byte in record {
@@ -104,6 +112,9 @@ fn whole(alloc: Global, record: &[u8]) -> Result<ByteList, NoMemory> {
             b'D' => text.push_slice(TO_SERVER)?,
             b'B' => text.push_slice(TO_ALL)?,
             b'A' => text.push_slice(ASTRAY)?,
+            b'C' => text.push_slice(FROM_CLIENT)?,
+            b'S' => text.push_slice(FROM_SERVER)?,
+            b'T' => text.push_slice(TO_CLIENT)?,
             other => text.push_slice(&[other])?,
         }
     }
@@ -115,6 +126,43 @@ fn follows_schedules(rt: HostRuntime) -> Result<(), Fail> {
     for (place, (life, events, acts, record)) in SCHEDULES.iter().enumerate() {
         let want = whole(rt.alloc(), record)?;
         match record_of(rt.alloc(), life, events, acts) {
+            Some(got) => assert_eq!(rt; got.as_slice(), want.as_slice(), "row {place}"),
+            None => assert!(rt; false, "refused: row {place}"),
+        }
+    }
+    Ok(())
+}
+
+/// Receives, or sends a packet.
+fn take_part(alloc: Global, segment: &mut Segment, act: &[u8]) -> Result<(), LinkError> {
+    match act.split_first() {
+        Some((b't', digits)) => receive(segment, number(digits), 1),
+        Some((b'w', digits)) => receive(segment, number(digits), 100),
+        _ => match whole(alloc, act) {
+            Ok(line) => send(alloc, segment, line.as_slice()),
+            Err(NoMemory) => Err(LinkError::NoMemory),
+        },
+    }
+}
+
+/// The record after these acts. `None` where something was refused.
+fn transfer_of(alloc: Global, events: &[u8], acts: &[u8]) -> Option<ByteList> {
+    let text = text_of(alloc, b"10", events).ok()?;
+    let script = read_script(alloc, text.as_slice()).ok()?;
+    let mut segment = Segment::new(alloc, script.config, script.events);
+    let mut record = ByteList::empty(alloc);
+    for act in acts.split(|byte| *byte == b',') {
+        take_part(alloc, &mut segment, act).ok()?;
+    }
+    segment.drain(&mut record).ok()?;
+    Some(record)
+}
+
+#[test]
+fn follows_transfers(rt: HostRuntime) -> Result<(), Fail> {
+    for (place, (events, acts, record)) in TRANSFERS.iter().enumerate() {
+        let want = whole(rt.alloc(), record)?;
+        match transfer_of(rt.alloc(), events, acts) {
             Some(got) => assert_eq!(rt; got.as_slice(), want.as_slice(), "row {place}"),
             None => assert!(rt; false, "refused: row {place}"),
         }

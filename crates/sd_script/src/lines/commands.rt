@@ -1,6 +1,6 @@
 ghost use Rattle.std.specs.Prelude.{◌≡◌, []};
 ghost use Rattle.sd_script.specs.Judging.{Judges, Tells};
-ghost use Rattle.sd_script.specs.Lines.{AddsCommand, MayBeCommand, AddrLine, WaitCommandLine};
+ghost use Rattle.sd_script.specs.Lines.{AddsCommand, MayBeCommand, AddrLine, BootLine, WaitCommandLine};
 
 use crate::draft::{Draft, Section};
 use crate::error::LineError;
@@ -38,6 +38,14 @@ pub fn addr_line(draft: &mut Draft, mut fields: Parts<'_>) -> Result<(), LineErr
 {
     take_end(&mut fields)?;
     add_command(draft, Command::Addr)
+}
+
+/// `boot`
+pub fn boot_line(draft: &mut Draft, mut fields: Parts<'_>) -> Result<(), LineError>
+    ensures { Judges BootLine draft.old fields.entry draft.new result }
+{
+    take_end(&mut fields)?;
+    add_command(draft, Command::Boot)
 }
 
 /// `wait N`

@@ -82,7 +82,7 @@ fn kept(rt: &HostRuntime, text: &[u8]) -> Result<ByteList, NoMemory> {
 
 #[test]
 fn reads_what_configuration_lines_say(rt: HostRuntime) -> Result<(), Fail> {
-    let text = boot_and(&rt, b"link /etc/rc ../x\narch sun2\nfile /b -\naddr\n")?;
+    let text = boot_and(&rt, b"link /etc/rc ../x\narch sun2\nfile /b -\nboot\n")?;
     let wanted = b"sun2
 /vmunix
 /export/root/sparky

@@ -40,7 +40,7 @@ pub fn refused(rt: &HostRuntime, text: &[u8]) -> Result<Option<u64>, NoMemory> {
 
 #[test]
 fn reads_what_the_lines_say(rt: HostRuntime) -> Result<(), Fail> {
-    let more = b"# a comment\n\nfate 29 9 1\nfate 3 none\naddr\n#\nwait 100000";
+    let more = b"# a comment\n\nfate 29 9 1\nfate 3 none\naddr\n#\nwait 100000\nboot";
     let text = with_line(&rt, 0, b"", more)?;
     let Ok(script) = read_script(rt.alloc(), text.as_slice()) else {
         assert!(rt; false, "refused");
@@ -67,7 +67,11 @@ fn reads_what_the_lines_say(rt: HostRuntime) -> Result<(), Fail> {
         }
         _ => assert!(rt; false, "other fates"),
     }
-    let commands = [Command::Addr, Command::Wait { ticks: 100_000 }];
+    let commands = [
+        Command::Addr,
+        Command::Wait { ticks: 100_000 },
+        Command::Boot,
+    ];
     assert_eq!(rt; script.config.kernel.as_slice(), b"/vmunix".as_slice());
     assert_eq!(rt; script.commands.as_slice(), commands.as_slice());
     Ok(())
@@ -172,7 +176,7 @@ fn judges_lines_of_the_heading(rt: HostRuntime) -> Result<(), Fail> {
 }
 
 /// What follows the heading, with the number of the refused line, or none.
-const AFTER: [(&[u8], Option<u64>); 43] = [
+const AFTER: [(&[u8], Option<u64>); 45] = [
     (b"", None),
     (b"addr", None),
     (b"wait 1\nwait 100000\naddr\n", None),
@@ -205,7 +209,9 @@ const AFTER: [(&[u8], Option<u64>); 43] = [
     (b"wait 01\n", Some(7)),
     (b"wait\n", Some(7)),
     (b"life 10\n", Some(7)),
-    (b"boot\n", Some(7)),
+    (b"boot\naddr\nboot", None),
+    (b"boot \n", Some(7)),
+    (b"boot 1\n", Some(7)),
     (b"host 192.168.1.9 other\n", Some(7)),
     (b"params sparky root=boss:/export\n", Some(7)),
     (b"stranger 1 frame 00\n", Some(7)),

@@ -93,6 +93,22 @@ fn writes_the_lines_of_a_transcript(rt: HostRuntime) -> Result<(), Fail> {
         Told::AddrTimeout,
         Told::AddrFlood { step: Stage::Rarp },
         Told::AddrLinkFault,
+        Told::BootUnbuilt {
+            step: Stage::Whoami,
+            program: ByteList::from_slice(alloc, &[0x42; 600])?,
+        },
+        Told::BootUnbuilt {
+            step: Stage::Tftp,
+            program: ByteList::empty(alloc),
+        },
+        Told::BootTimeout { step: Stage::Tftp },
+        Told::BootFlood { step: Stage::Rarp },
+        Told::BootRefused {
+            step: Stage::Tftp,
+            status: 1,
+        },
+        Told::BootTooLarge { size: 33_553_920 },
+        Told::BootLinkFault,
         Told::WaitOk { ticks: 5 },
         Told::WaitFlood { ticks: 100_000 },
         Told::WaitLinkFault { ticks: 1 },
@@ -108,6 +124,13 @@ addr ok 192.168.1.2
 addr timeout rarp
 addr flood rarp
 addr linkfault
+boot unbuilt whoami program 42*600
+boot unbuilt tftp program -
+boot timeout tftp
+boot flood rarp
+boot refused tftp 1
+boot toolarge 33553920
+boot linkfault
 wait 5 ok
 wait 100000 flood wait
 wait 1 linkfault

@@ -1,13 +1,15 @@
 //! Time goes on until a packet comes to the client.
-ghost use Rattle.std.specs.Prelude.{◌≡◌, ◌⊎◌, ◌+◌, ◌-◌, ◌^◌, ◌≤◌, ◌<◌, [], min, max, true, OnOk, OnErr, IfOk, IfSome, List, Some, None, Ok, Err};
+ghost use Rattle.std.specs.Prelude.{◌≡◌, ◌⊎◌, ◌+◌, ◌-◌, ◌^◌, ◌≤◌, ◌<◌, [], length, min, max, true, OnOk, OnErr, IfOk, IfSome, List, Some, None, Ok, Err};
 ghost use Rattle.sd_outside.specs.Causes.{Rose};
 ghost use Rattle.sd_link.specs.Link.{Moves, Receives, LinkCause, Counts, last_tick, IsBounded};
 ghost use Rattle.sd_link.specs.Steps.{Step};
 ghost use Rattle.sd_link.specs.declared.link.LinkError.TheVariants as refused;
-ghost use Rattle.sd_segment.specs.Segment.{history_of, text_drained};
-ghost use Rattle.sd_segment.specs.Passing.{Advances, AllServes, HandsOut, WentOn};
+ghost use Rattle.sd_segment.specs.Segment.{history_of, text_drained, Rests};
+ghost use Rattle.sd_segment.specs.Passing.{Advances, AllServes, HandsOut, TakesTurn, WentOn};
+ghost use Rattle.sd_segment.specs.Server.{dues, IsNext};
 
 use crate::segment::Segment;
+use crate::sessions::Sending;
 use sd_link::LinkError;
 use sd_outside::{NoMemory, Packet};
 
@@ -16,7 +18,7 @@ const LAST_TICK: u64 = 1 << 62;
 impl Segment {
     /// The next packet that is due to the client, if there is one, is handed out.
     pub(crate) fn hand_out(&mut self) -> Result<Option<Packet>, NoMemory>
-        requires ready { self.old.to_server ≡ [] }
+        requires ready { Rests self.old }
         ensures got { IfOk result (HandsOut self.old self.new) }
         ensures err { OnErr result (self.new ≡ self.old) }
         ensures tick { self.new.tick ≡ self.old.tick }
@@ -45,21 +47,66 @@ impl Segment {
         Ok(())
     }
 
-    /// Time goes on by one tick, and the server is given what is due to it.
+    /// A session whose block is due sends it again, or ends.
+    pub(crate) fn take_turn(&mut self, session: Sending) -> Result<(), NoMemory>
+        requires served { self.old.to_server ≡ [] }
+        requires next { IsNext self.old.config self.old.server self.old.tick session }
+        ensures ok { OnOk result (TakesTurn self.old self.new) }
+        ensures less { OnOk result (length (dues self.new.config self.new.tick self.new.server) < length (dues self.old.config self.old.tick self.old.server)) }
+        ensures served { self.new.to_server ≡ self.old.to_server }
+        ensures err { OnErr result (self.new ≡ self.old) }
+        ensures tick { self.new.tick ≡ self.old.tick }
+        ensures handed { self.new.handed ≡ self.old.handed }
+    {
+        if self.is_spent(&session) {
+            self.end(session)?;
+            return Ok(());
+        }
+        self.send_again(session)?;
+        Ok(())
+    }
+
+    /// Each session whose block is due at this tick has its turn, once the server was given all that is due to it.
+    pub(crate) fn send_due(&mut self) -> Result<(), NoMemory>
+        requires served { self.old.to_server ≡ [] }
+        ensures moves { (served : List Step) × WentOn self.old self.new served × AllServes served }
+        ensures ready { OnOk result (Rests self.new) }
+        ensures tick { self.new.tick ≡ self.old.tick }
+        ensures handed { self.new.handed ≡ self.old.handed }
+    {
+        while let Some(session) = self.next_due() {
+            self.take_turn(session)?;
+        }
+        Ok(())
+    }
+
+    /// The server does all that is due to it at this tick.
+    pub(crate) fn settle(&mut self) -> Result<(), NoMemory>
+        ensures moves { (served : List Step) × WentOn self.old self.new served × AllServes served }
+        ensures ready { OnOk result (Rests self.new) }
+        ensures tick { self.new.tick ≡ self.old.tick }
+        ensures handed { self.new.handed ≡ self.old.handed }
+    {
+        self.serve_all()?;
+        self.send_due()?;
+        Ok(())
+    }
+
+    /// Time goes on by one tick, and the server does what is due to it.
     pub(crate) fn advance(&mut self) -> Result<(), NoMemory>
         requires early { self.old.tick < last_tick }
-        requires served { self.old.to_server ≡ [] }
+        requires ready { Rests self.old }
         requires got { self.old.to_client ≡ [] }
         ensures moves { (self.new ≡ self.old) ⊎ Advances self.old self.new }
         ensures passed { OnOk result (Advances self.old self.new) }
-        ensures ready { OnOk result (self.new.to_server ≡ []) }
+        ensures ready { OnOk result (Rests self.new) }
         ensures tick { OnOk result (self.new.tick ≡ self.old.tick + 1) }
         ensures later { self.old.tick ≤ self.new.tick }
         ensures bounded { IsBounded (history_of self.old) → IsBounded (history_of self.new) }
         ensures handed { self.new.handed ≡ self.old.handed }
     {
         self.pass()?;
-        self.serve_all()?;
+        self.settle()?;
         Ok(())
     }
 
@@ -82,7 +129,7 @@ impl Segment {
 
     /// Waits for a packet until this tick.
     pub(crate) fn receive(&mut self, until: u64) -> Result<Option<Packet>, LinkError>
-        requires ready { self.old.to_server ≡ [] }
+        requires ready { Rests self.old }
         requires bounded { IsBounded (history_of self.old) }
         ensures told { Moves (Some (history_of self.old)) (Some (history_of self.new)) (Receives until result) }
         ensures bounded { IsBounded (history_of self.new) }

@@ -1,11 +1,11 @@
-use Rattle.std.proofs.Common.{◌≡◌, ◌+◌, ◌≤◌, arith, Option, Some, None, Ok, Err, sym, ◌∙◌, subst}
+use Rattle.std.proofs.Common.{◌+◌, arith, Option, Some, None, Ok, ◌∙◌, subst}
 use Rattle.sd_outside.specs.declared.packet.Packet.{Packet}
 use Rattle.sd_link.specs.Link.{Moves, Receives}
 use Rattle.sd_link.proofs.Histories.{moves_then, moves_weaker}
-use Rattle.sd_boot_chain.specs.Client.{StaysBefore}
+use Rattle.sd_rpc_retry.specs.Lasting.{StaysBefore}
 use Rattle.sd_boot_chain.specs.Pause.{Passes}
-use Rattle.sd_boot_chain.specs.declared.pause.Pause.TheVariants.{Over, Flood, Fault}
-use Rattle.sd_boot_chain.proofs.Getting.{Gets, gets_error, gets_packet}
+use Rattle.sd_boot_chain.specs.declared.pause.Pause.TheVariants.{Over, Fault}
+use Rattle.sd_boot_chain.proofs.Dropping.{Gets, gets_error, gets_packet}
 use Rattle.sd_boot_chain.proofs.Pausing.{passes_over, passes_fault}
 use Rattle.sd_boot_chain.proofs.pause.drop_until.Goals as goal
 

@@ -1,6 +1,6 @@
 use Rattle.std.proofs.Common.{◌≡◌, ◌≤◌}
 use Rattle.sd_link.specs.Link.{Moves}
-use Rattle.sd_boot_chain.proofs.Getting.{Gets}
+use Rattle.sd_boot_chain.proofs.Dropping.{Gets}
 use Rattle.sd_boot_chain.proofs.pause.drop_until.Given as goal
 
 abbrev pub invariant-loop-count : goal.invariant-loop-count

@@ -1,11 +1,11 @@
-use Rattle.std.proofs.Common.{◌≡◌, ◌+◌, ◌≤◌, Option, sym, ◌∙◌, subst, arith}
+use Rattle.std.proofs.Common.{◌+◌, Option, sym, subst}
 use Rattle.std.proofs.lemmas.Result.{IfOk-weaker}
 use Rattle.sd_link.specs.Steps.{History}
 use Rattle.sd_link.specs.Link.{Moves, IsNow}
-use Rattle.sd_boot_chain.specs.Client.{Lasts, most_ticks}
+use Rattle.sd_rpc_retry.specs.Lasting.{Lasts}
 use Rattle.sd_boot_chain.specs.Pause.{Passes, IsPause}
-use Rattle.sd_boot_chain.proofs.Getting.{lasts_from}
-use Rattle.sd_boot_chain.proofs.Lasting.{lasts_more}
+use Rattle.sd_rpc_retry.proofs.Getting.{lasts_from}
+use Rattle.sd_rpc_retry.proofs.Lasting.{lasts_more}
 use Rattle.sd_boot_chain.proofs.Pausing.{pauses}
 use Rattle.sd_boot_chain.proofs.pause.pass_ticks.Goals as goal
 
@@ -21,5 +21,5 @@ returns-clause-told g c =
 pub returns-clause-goes : goal.returns-clause-goes
 returns-clause-goes g c =
     let at : IsNow (g.L.Link.told c.now.new.self) c.now.result = subst (λ n. IsNow (g.L.Link.told c.now.new.self) n) (sym c.now.ensures.value) c.now.ensures.tick in
-    subst (λ (o : Option History). Lasts most_ticks o (g.L.Link.told c.drop_until.new.link)) c.now.ensures.told
-    (lasts_more _ _ c.args.ticks most_ticks c.requires (lasts_from _ _ c.now.result c.args.ticks at c.drop_until.ensures.goes))
+    subst (λ (o : Option History). Lasts 100000 o (g.L.Link.told c.drop_until.new.link)) c.now.ensures.told
+    (lasts_more _ _ c.args.ticks 100000 c.requires (lasts_from _ _ c.now.result c.args.ticks at c.drop_until.ensures.goes))

@@ -1,28 +1,40 @@
-use Rattle.std.proofs.Common.{◌≡◌, ℕ, ◌+◌, ◌*◌, ◌≤◌, ◌<◌, List, [], ◌∷◌, ◌++◌, take, get_or, Option, Result, Ok, Err, refl, sym, ◌∙◌, ap, subst, arith}
+use Rattle.std.proofs.Common.{◌≡◌, ℕ, ◌+◌, ◌*◌, List, [], ◌∷◌, ◌++◌, take, get_or, Result, Ok, Err, refl, sym, ◌∙◌, subst, arith}
 use Rattle.std.proofs.lemmas.List.{take_more, take_all}
 use Rattle.std.specs.Prelude.{OnErr}
-use Rattle.sd_outside.specs.Causes.{Rose}
 use Rattle.sd_outside.specs.Streams.{Gains}
 use Rattle.sd_link.specs.declared.config.ClientConfig.{ClientConfig}
 use Rattle.sd_link.specs.Config.{IsFor}
 use Rattle.sd_link.specs.Steps.{whole_record}
 use Rattle.sd_link.specs.Printing.{record_text}
-use Rattle.sd_link.specs.Link.{Moves}
-use Rattle.sd_link.proofs.Histories.{moves_then}
+use Rattle.sd_link.proofs.Histories.{moves_not, moves_then, moves_weaker}
 use Rattle.sd_script.specs.declared.script.Command.{Command}
 use Rattle.sd_script.specs.declared.script.Command.TheVariants.{Addr}
 use Rattle.sd_claims.specs.Session.{IsSession, IsCutSession}
-use Rattle.sd_boot_chain.specs.Client.{most_ticks, most_session_ticks}
+use Rattle.sd_boot_chain.specs.Durations.{most_ticks, most_session_ticks}
 use Rattle.sd_boot_chain.specs.Writing.{GainsFront}
 use Rattle.sd_boot_chain.specs.Step.{IsStep}
-use Rattle.sd_boot_chain.proofs.Lasting.{lasts_then, goes_on}
-use Rattle.sd_boot_chain.proofs.Stepping.{session_more, session_cut, session_stops, moves_from}
+use Rattle.sd_rpc_retry.proofs.Lasting.{lasts_none, lasts_then, goes_on}
+use Rattle.sd_boot_chain.proofs.Stepping.{SessionAt, session_first, session_more, session_cut, session_stops, moves_from}
 use Rattle.sd_boot_chain.proofs.transcript.do_all.Goals as goal
+
+pub loop-command-init : goal.loop-command-init
+loop-command-init g c =
+    let before = g.K.Sink.written c.args.sink.now in
+    let client = c.args.client.now in
+    record {
+      config = refl;
+      done = λ quiet. moves_not _ (λ a part. IsFor a.config client.config → SessionAt [] before before client.boots a part) (λ h is_for. session_first before client.boots h c.requires.fresh);
+      lasts = lasts_none _ 0;
+      drained = c.requires.drained;
+      faults = omega arith;
+      sink_faults = refl;
+    }
 
 pub loop-command-preserved : goal.loop-command-preserved
 loop-command-preserved g c =
-    let config = c.args.client.now in
-    let same : c.loop-command.client ≡ config = c.loop-command.invariant.client in
+    let config = c.args.client.now.config in
+    let client = c.loop-command.client in
+    let same : client.config ≡ config = c.loop-command.invariant.config in
     let commands = c.args.commands.now in
     let i = c.loop-command.command-index in
     let command = get_or commands i Addr in
@@ -37,19 +49,19 @@ loop-command-preserved g c =
     let wrote : Gains so_far now text = subst (λ (l : List ℕ). Gains so_far now l) c.as_slice.ensures c.in-Ok.ensures.ok in
     let more : take (i + 1) commands ≡ take i commands ++ command ∷ [] = take_more commands i Addr (omega arith) in
     record {
-      client = c.text_of.ensures.same ∙ same;
+      config = c.text_of.ensures.same ∙ same;
       done = λ quiet.
           let was = c.loop-command.invariant.done (λ rose. quiet (omega (arith, rose, c.text_of.ensures.faults))) in
-          let stepped_so = c.in_ok-text.ensures.done (λ rose. quiet (omega (arith, rose, c.loop-command.invariant.faults))) in
-          let stepped = subst (λ (k : ClientConfig). Moves mid new (IsStep k command drained text)) same stepped_so in
+          let stepped = c.in_ok-text.ensures.done (λ rose. quiet (omega (arith, rose, c.loop-command.invariant.faults))) in
+          let next = c.text_of.new.client.boots in
           moves_then old mid new
-          (λ a part. IsFor a.config config → IsSession (take i commands) before so_far a part)
-          (λ b part. (drained ≡ record_text (whole_record b)) × IsStep config command drained text b part)
-          (λ a part. IsFor a.config config → IsSession (take (i + 1) commands) before now a part)
-          (λ a b xs ys goes s t is_for. subst (λ (l : List Command). IsSession l before now a (xs ++ ys)) (sym more)
-          (session_more config (take i commands) command before so_far now drained text a b xs ys goes is_for (s is_for) t.0 t.1 wrote))
+          (λ a part. IsFor a.config config → SessionAt (take i commands) before so_far client.boots a part)
+          (λ b part. (drained ≡ record_text (whole_record b)) × IsStep client command drained text next b part)
+          (λ a part. IsFor a.config config → SessionAt (take (i + 1) commands) before now next a part)
+          (λ a b xs ys goes s t is_for. subst (λ (l : List Command). SessionAt l before now next a (xs ++ ys)) (sym more)
+          (session_more client (take i commands) command before so_far drained text next a b xs ys goes (subst (λ (k : ClientConfig). IsFor a.config k) (sym same) is_for) (s is_for) t.0 t.1 now wrote))
           was
-          (moves_from mid new (IsStep config command drained text) (λ b. drained ≡ record_text (whole_record b)) c.loop-command.invariant.drained stepped);
+          (moves_from mid new (IsStep client command drained text next) (λ b. drained ≡ record_text (whole_record b)) c.loop-command.invariant.drained stepped);
       lasts = lasts_then old mid new (i * most_ticks) most_ticks ((i + 1) * most_ticks) (omega arith) c.loop-command.invariant.lasts c.text_of.ensures.lasts;
       drained = c.in_ok-text.ensures.drained;
       faults = omega (arith, c.text_of.ensures.faults, c.loop-command.invariant.faults);
@@ -63,7 +75,7 @@ on_err (Err e) p = p
 -- the step ended without an answer
 pub returns-in_err-text-clause-cut : goal.returns-in_err-text-clause-cut
 returns-in_err-text-clause-cut g c = λ quiet.
-    let config = c.args.client.now in
+    let config = c.args.client.now.config in
     let commands = c.args.commands.now in
     let i = c.loop-command.command-index in
     let before = g.K.Sink.written c.args.sink.now in
@@ -71,17 +83,18 @@ returns-in_err-text-clause-cut g c = λ quiet.
     let was = c.loop-command.invariant.done (λ rose. quiet (omega (arith, rose, c.text_of.ensures.faults))) in
     on_err c.from_residual.result
     (moves_then (g.L.Link.told c.args.link.now) (g.L.Link.told c.loop-command.link) (g.L.Link.told c.text_of.new.link)
-    (λ a part. IsFor a.config config → IsSession (take i commands) before so_far a part)
+    (λ a part. IsFor a.config config → SessionAt (take i commands) before so_far c.loop-command.client.boots a part)
     (λ b part. Unit {0})
     (λ a part. IsFor a.config config → IsCutSession commands before so_far a part)
-    (λ a b xs ys goes s t is_for. session_cut commands i before so_far a xs ys (s is_for))
+    (λ a b xs ys goes s t is_for. session_cut commands i before so_far a xs ys (s is_for).session)
     was (goes_on (g.L.Link.told c.loop-command.link) (g.L.Link.told c.text_of.new.link) most_ticks c.text_of.ensures.lasts))
 
 -- the sink took a front of the step's text
 pub returns-in-Err-clause-cut : goal.returns-in-Err-clause-cut
 returns-in-Err-clause-cut g c = λ quiet.
-    let config = c.args.client.now in
-    let same : c.loop-command.client ≡ config = c.loop-command.invariant.client in
+    let config = c.args.client.now.config in
+    let client = c.loop-command.client in
+    let same : client.config ≡ config = c.loop-command.invariant.config in
     let commands = c.args.commands.now in
     let i = c.loop-command.command-index in
     let command = get_or commands i Addr in
@@ -95,15 +108,15 @@ returns-in-Err-clause-cut g c = λ quiet.
     let wrote : GainsFront so_far now text = subst (λ (l : List ℕ). GainsFront so_far now l) c.as_slice.ensures c.in-Err.ensures.err in
     let more : take (i + 1) commands ≡ take i commands ++ command ∷ [] = take_more commands i Addr (omega arith) in
     let was = c.loop-command.invariant.done (λ rose. quiet (omega (arith, rose, c.text_of.ensures.faults))) in
-    let stepped_so = c.in_ok-text.ensures.done (λ rose. quiet (omega (arith, rose, c.loop-command.invariant.faults))) in
-    let stepped = subst (λ (k : ClientConfig). Moves mid new (IsStep k command drained text)) same stepped_so in
+    let stepped = c.in_ok-text.ensures.done (λ rose. quiet (omega (arith, rose, c.loop-command.invariant.faults))) in
+    let next = c.text_of.new.client.boots in
     moves_then (g.L.Link.told c.args.link.now) mid new
-    (λ a part. IsFor a.config config → IsSession (take i commands) before so_far a part)
-    (λ b part. (drained ≡ record_text (whole_record b)) × IsStep config command drained text b part)
+    (λ a part. IsFor a.config config → SessionAt (take i commands) before so_far client.boots a part)
+    (λ b part. (drained ≡ record_text (whole_record b)) × IsStep client command drained text next b part)
     (λ a part. IsFor a.config config → IsCutSession commands before now a part)
-    (λ a b xs ys goes s t is_for. session_stops config commands i command before so_far now drained text a b xs ys more goes is_for (s is_for) t.0 t.1 wrote)
+    (λ a b xs ys goes s t is_for. session_stops client (take i commands) command before so_far drained text next a b xs ys goes (subst (λ (k : ClientConfig). IsFor a.config k) (sym same) is_for) (s is_for) t.0 t.1 commands i now more wrote)
     was
-    (moves_from mid new (IsStep config command drained text) (λ b. drained ≡ record_text (whole_record b)) c.loop-command.invariant.drained stepped)
+    (moves_from mid new (IsStep client command drained text next) (λ b. drained ≡ record_text (whole_record b)) c.loop-command.invariant.drained stepped)
 
 pub returns-in_err-text-clause-lasts : goal.returns-in_err-text-clause-lasts
 returns-in_err-text-clause-lasts g c =
@@ -115,7 +128,13 @@ returns-in-Err-clause-lasts g c =
 
 pub returns-clause-done : goal.returns-clause-done
 returns-clause-done g c = λ quiet.
+    let config = c.args.client.now.config in
     let commands = c.args.commands.now in
     let i = c.loop-command.command-index in
-    subst (λ (l : List Command). Moves (g.L.Link.told c.args.link.now) (g.L.Link.told c.loop-command.link) (λ a part. IsFor a.config c.args.client.now → IsSession l (g.K.Sink.written c.args.sink.now) (g.K.Sink.written c.loop-command.sink) a part))
-    (take_all i commands (omega arith)) (c.loop-command.invariant.done quiet)
+    let before = g.K.Sink.written c.args.sink.now in
+    let so_far = g.K.Sink.written c.loop-command.sink in
+    moves_weaker (g.L.Link.told c.args.link.now) (g.L.Link.told c.loop-command.link)
+    (λ a part. IsFor a.config config → SessionAt (take i commands) before so_far c.loop-command.client.boots a part)
+    (λ a part. IsFor a.config config → IsSession commands before so_far a part)
+    (λ a part s is_for. subst (λ (l : List Command). IsSession l before so_far a part) (take_all i commands (omega arith)) (s is_for).session)
+    (c.loop-command.invariant.done quiet)

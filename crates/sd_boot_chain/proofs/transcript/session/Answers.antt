@@ -1,4 +1,4 @@
-use Rattle.std.proofs.Common.{◌≡◌, List, [], Option, Result, Ok, Err, sym, subst}
+use Rattle.std.proofs.Common.{List, [], Result, Ok, Err, ap, subst}
 use Rattle.std.specs.Prelude.{OnOk, OnErr}
 use Rattle.sd_link.specs.declared.config.ClientConfig.{ClientConfig}
 use Rattle.sd_link.specs.Config.{IsFor}
@@ -6,6 +6,7 @@ use Rattle.sd_link.specs.Link.{Moves}
 use Rattle.sd_script.specs.declared.script.Command.{Command}
 use Rattle.sd_link.proofs.Histories.{moves_not}
 use Rattle.sd_claims.specs.Session.{IsSession, IsCutSession}
+use Rattle.sd_boot_chain.specs.Step.{ClientView}
 use Rattle.sd_boot_chain.proofs.Stepping.{session_none, session_cut}
 use Rattle.sd_boot_chain.proofs.transcript.session.Goals as goal
 
@@ -24,11 +25,11 @@ returns-in_err-client-clause-cut g c = λ quiet.
 pub returns-clause-done : goal.returns-clause-done
 returns-clause-done g c = λ quiet.
     subst (λ (k : ClientConfig). OnOk c.do_all.result (Moves (g.L.Link.told c.args.link.now) (g.L.Link.told c.do_all.new.link) (λ a part. IsFor a.config k → IsSession c.args.commands.now (g.K.Sink.written c.args.sink.now) (g.K.Sink.written c.do_all.new.sink) a part)))
-    c.in_ok-client.ensures (subst (λ (l : List Command). OnOk c.do_all.result (Moves (g.L.Link.told c.args.link.now) (g.L.Link.told c.do_all.new.link) (λ a part. IsFor a.config c.in_ok-client.client → IsSession l (g.K.Sink.written c.args.sink.now) (g.K.Sink.written c.do_all.new.sink) a part)))
+    (ap (λ (v : ClientView). v.config) c.in_ok-client.ensures) (subst (λ (l : List Command). OnOk c.do_all.result (Moves (g.L.Link.told c.args.link.now) (g.L.Link.told c.do_all.new.link) (λ a part. IsFor a.config c.in_ok-client.client.config → IsSession l (g.K.Sink.written c.args.sink.now) (g.K.Sink.written c.do_all.new.sink) a part)))
     c.as_slice.ensures.all (c.do_all.ensures.done quiet))
 
 pub returns-clause-cut : goal.returns-clause-cut
 returns-clause-cut g c = λ quiet.
     subst (λ (k : ClientConfig). OnErr c.do_all.result (Moves (g.L.Link.told c.args.link.now) (g.L.Link.told c.do_all.new.link) (λ a part. IsFor a.config k → IsCutSession c.args.commands.now (g.K.Sink.written c.args.sink.now) (g.K.Sink.written c.do_all.new.sink) a part)))
-    c.in_ok-client.ensures (subst (λ (l : List Command). OnErr c.do_all.result (Moves (g.L.Link.told c.args.link.now) (g.L.Link.told c.do_all.new.link) (λ a part. IsFor a.config c.in_ok-client.client → IsCutSession l (g.K.Sink.written c.args.sink.now) (g.K.Sink.written c.do_all.new.sink) a part)))
+    (ap (λ (v : ClientView). v.config) c.in_ok-client.ensures) (subst (λ (l : List Command). OnErr c.do_all.result (Moves (g.L.Link.told c.args.link.now) (g.L.Link.told c.do_all.new.link) (λ a part. IsFor a.config c.in_ok-client.client.config → IsCutSession l (g.K.Sink.written c.args.sink.now) (g.K.Sink.written c.do_all.new.sink) a part)))
     c.as_slice.ensures.all (c.do_all.ensures.cut quiet))

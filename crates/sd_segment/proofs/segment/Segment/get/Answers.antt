@@ -4,7 +4,7 @@ use Rattle.sd_outside.specs.declared.packet.Packet.{Packet}
 use Rattle.sd_link.specs.Steps.{Get, goes_to_client}
 use Rattle.sd_segment.specs.declared.flown.Flown.{Flown}
 use Rattle.sd_segment.specs.Inside.{view_of}
-use Rattle.sd_segment.specs.Segment.{SegmentView, IsSound}
+use Rattle.sd_segment.specs.Segment.{SegmentView, IsSound, Rests}
 use Rattle.sd_segment.specs.Passing.{Passes}
 use Rattle.sd_segment.proofs.Passing.{got_next, got_is, sound_got, passes_got, passes_at, found_in, coming_to_client, coming_inside}
 use Rattle.sd_segment.proofs.segment.Segment.get.Goals as goal
@@ -25,7 +25,7 @@ invariant_of-self-2 c =
     let id = c.args.id in
     let f = c.index-flight-id.result in
     let handed = c.saturating_add-self-inside.result in
-    let ready : s.to_server ≡ [] = subst (λ (v : SegmentView). v.to_server ≡ []) (sym c.self.view_is) c.requires.ready in
+    let ready : Rests s = subst Rests (sym c.self.view_is) c.requires.ready in
     let next : slice_get s.to_client 0 ≡ Some id = subst (λ (v : SegmentView). slice_get v.to_client 0 ≡ Some id) (sym c.self.view_is) c.requires.next in
     let at : slice_get s.flight id ≡ Some f = found_in c.as_slice-flight.result.now s.flight id f c.as_slice-flight.ensures.value (coming_inside s (goes_to_client s.config) id (coming_to_client s id c.self.invariant next)) c.index-flight-id.is in
     subst IsSound (sym (got_is s id handed c.push.new.self.items c.take_next.new.self c.in_ok-push.ensures.items c.take_next.ensures))

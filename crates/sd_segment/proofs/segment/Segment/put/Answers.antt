@@ -5,7 +5,7 @@ use Rattle.sd_link.specs.Steps.{Send}
 use Rattle.sd_segment.specs.declared.flown.Flown.{Flown}
 use Rattle.sd_segment.specs.Flight.{delays_of}
 use Rattle.sd_segment.specs.Inside.{view_of}
-use Rattle.sd_segment.specs.Segment.{SegmentView, IsSound}
+use Rattle.sd_segment.specs.Segment.{SegmentView, IsSound, Rests}
 use Rattle.sd_segment.proofs.Passing.{sent_next, sent_is, sound_sent, passes_sent, passes_at, fate_found}
 use Rattle.sd_segment.proofs.segment.Segment.put.Goals as goal
 
@@ -17,7 +17,7 @@ invariant_of-self-2 c =
     let same : length c.as_slice.result.now ≡ length s.flight = ap (λ (l : List Flown). length l) c.as_slice.ensures.value in
     let here : id ≡ length s.flight = c.in_ok-id.ensures.next ∙ same in
     let room : length s.flight < last_tick = subst (λ (n : ℕ). n < last_tick) same c.in_ok-id.ensures.room in
-    let ready : s.to_server ≡ [] = subst (λ (v : SegmentView). v.to_server ≡ []) (sym c.self.view_is) c.requires.ready in
+    let ready : Rests s = subst Rests (sym c.self.view_is) c.requires.ready in
     let found : delays_of s.events.fates fate ≡ fate_in s.events.fates (length s.flight) =
     fate_found c.as_slice-2.result.now s.events.fates id (length s.flight) fate c.as_slice-2.ensures here c.place_of-fate.ensures in
     subst IsSound (sym (sent_is s c.args.packet fate c.push_both.new.flight.items c.push_both.new.kept.items id c.in_ok-push_both.ensures.flight c.in_ok-push_both.ensures.kept here))

@@ -1,7 +1,7 @@
-use Rattle.std.proofs.Common.{◌≡◌, ◌-◌, ◌≤◌, List, []}
+use Rattle.std.proofs.Common.{◌≡◌, ◌-◌, ◌≤◌, List}
 use Rattle.sd_link.specs.Steps.{Step}
 use Rattle.sd_link.specs.Link.{IsBounded}
-use Rattle.sd_segment.specs.Segment.{history_of}
+use Rattle.sd_segment.specs.Segment.{history_of, Rests}
 use Rattle.sd_segment.specs.Passing.{Waits}
 use Rattle.sd_segment.proofs.segment.Segment.receive.Given as goal
 
@@ -9,7 +9,7 @@ abbrev pub invariant-waiting : goal.invariant-waiting
 invariant-waiting l = record {
   waits : (part : List Step) × Waits l.until l.initial.self l.self part;
   bounded : IsBounded (history_of l.self);
-  ready : l.self.to_server ≡ [];
+  ready : Rests l.self;
   tick : l.initial.self.tick ≤ l.self.tick;
   faults : l.self.faults ≡ l.initial.self.faults;
   handed : l.self.handed ≡ l.initial.self.handed;

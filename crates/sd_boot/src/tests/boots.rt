@@ -1,0 +1,263 @@
+//! Boots, as far as they are built: transcripts of single boots, and tables of schedules.
+//!
+//! They are worked out by hand from the rules. A packet comes one tick after it was sent, unless its fate says otherwise; in a
+//! tick the server is given all before its sessions send again, and both before the client gets anything.
+
+use super::ran;
+use sd_outside::{ByteList, NoMemory};
+use std::alloc::Global;
+use std::process::Abort;
+use std::test::Fail;
+
+const LIFE: &[u8] = b"life 10\ntries 4\nwait 5";
+
+const ONE_TRY: &[u8] = b"life 10\ntries 1\nwait 5";
+
+const LONG_LIFE: &[u8] = b"life 20\ntries 4\nwait 5";
+
+const MACHINES: &[u8] =
+    b"\npages 1\nserver 080020000001 192.168.1.1 boss\nclient 080020010203 192.168.1.2 sparky example 192.168.1.1\n";
+
+const QUESTION: &[u8] =
+    b"frame ff*6.08002001020380350001080006040003080020010203.00*4.080020010203.00*22";
+
+const ADDRESS: &[u8] =
+    b"frame 08002001020308002000000180350001080006040004080020000001c0a80101080020010203c0a80102.00*18";
+
+const REQUEST: &[u8] = b"udp 192.168.1.2:2048 192.168.1.1:69 00014330413830313032006f6374657400";
+
+/// A script and its output, both without what all have in common.
+struct Boot {
+    head: &'static [u8],
+    lines: &'static [u8],
+    output: &'static [u8],
+}
+
+const BOOTS: [Boot; 11] = [
+    // a calm boot
+    Boot {
+        head: LIFE,
+        lines: b"tftp C0A80102 42*600\nboot\n",
+        output: b"Psent 2 2 R;served 3 2;sent 3 3 S4096T00030001.42*512;got 4 3;sent 4 4 C4096 00040001;served 5 4;sent 5 5 S4096T00030002.42*88;got 6 5;sent 6 6 C4096 00040002;boot unbuilt whoami program 42*600;",
+    },
+    // an empty file is one empty block
+    Boot {
+        head: LIFE,
+        lines: b"tftp C0A80102 -\nboot\n",
+        output: b"Psent 2 2 R;served 3 2;sent 3 3 S4096T00030001;got 4 3;sent 4 4 C4096 00040001;boot unbuilt whoami program -;",
+    },
+    // a whole block is followed by an empty one
+    Boot {
+        head: LIFE,
+        lines: b"tftp C0A80102 42*512\nboot\n",
+        output: b"Psent 2 2 R;served 3 2;sent 3 3 S4096T00030001.42*512;got 4 3;sent 4 4 C4096 00040001;served 5 4;sent 5 5 S4096T00030002;got 6 5;sent 6 6 C4096 00040002;boot unbuilt whoami program 42*512;",
+    },
+    // the first block comes again when the third is awaited: nothing is sent for it
+    Boot {
+        head: LIFE,
+        lines: b"tftp C0A80102 42*1024\nfate 3 1 4\nboot\n",
+        output: b"Psent 2 2 R;served 3 2;sent 3 3 S4096T00030001.42*512;got 4 3;sent 4 4 C4096 00040001;served 5 4;sent 5 5 S4096T00030002.42*512;got 6 5;sent 6 6 C4096 00040002;served 7 6;sent 7 7 S4096T00030003;got 7 3;got 8 7;sent 8 8 C4096 00040003;boot unbuilt whoami program 42*1024;",
+    },
+    // the first ACK is lost: the block that comes again is acknowledged at once, and again by the next try
+    Boot {
+        head: LIFE,
+        lines: b"tftp C0A80102 42*600\nfate 4 none\nboot\n",
+        output: b"Psent 2 2 R;served 3 2;sent 3 3 S4096T00030001.42*512;got 4 3;sent 4 4 C4096 00040001;sent 8 5 S4096T00030001.42*512;got 9 5;sent 9 6 C4096 00040001;sent 9 7 C4096 00040001;served 10 6;sent 10 8 S4096T00030002.42*88;served 10 7;got 11 8;sent 11 9 C4096 00040002;boot unbuilt whoami program 42*600;",
+    },
+    // the request comes twice: the second session's block is a stranger's
+    Boot {
+        head: LIFE,
+        lines: b"tftp C0A80102 42*600\nfate 2 1 2\nboot\n",
+        output: b"Psent 2 2 R;served 3 2;sent 3 3 S4096T00030001.42*512;served 4 2;sent 4 4 S4097T00030001.42*512;got 4 3;sent 4 5 C4096 00040001;served 5 5;sent 5 6 S4096T00030002.42*88;got 5 4;sent 5 7 C4097 0005000500;served 6 7;got 6 6;sent 6 8 C4096 00040002;boot unbuilt whoami program 42*600;",
+    },
+    // no file has the name
+    Boot {
+        head: LIFE,
+        lines: b"tftp C0A80101 42*600\nboot\n",
+        output: b"Psent 2 2 R;served 3 2;sent 3 3 S69T0005000100;got 4 3;boot refused tftp 1;",
+    },
+    // every request is lost
+    Boot {
+        head: LIFE,
+        lines: b"tftp C0A80102 42*600\nfate 2 none\nfate 3 none\nfate 4 none\nfate 5 none\nboot\n",
+        output: b"Psent 2 2 R;sent 7 3 R;sent 12 4 R;sent 17 5 R;boot timeout tftp;",
+    },
+    // with one try each, the ACK is lost: the session ends, and so does the boot
+    Boot {
+        head: ONE_TRY,
+        lines: b"tftp C0A80102 42*600\nfate 4 none\nboot\nwait 5\n",
+        output: b"Psent 2 2 R;served 3 2;sent 3 3 S4096T00030001.42*512;got 4 3;sent 4 4 C4096 00040001;boot timeout tftp;wait 5 ok;",
+    },
+    // no answer to the question for the address
+    Boot {
+        head: ONE_TRY,
+        lines: b"tftp C0A80102 42*600\nfate 1 none\nboot\n",
+        output: b"sent 0 0 Q;served 1 0;sent 1 1 A;boot timeout rarp;",
+    },
+    // the name ends in the architecture
+    Boot {
+        head: LIFE,
+        lines: b"arch SUN4C\ntftp C0A80102 42*600\ntftp C0A80102.SUN4C 50*3\nboot\n",
+        output: b"Psent 2 2 C69 000143304138303130322e53554e3443006f6374657400;served 3 2;sent 3 3 S4096T00030001505050;got 4 3;sent 4 4 C4096 00040001;boot unbuilt whoami program 505050;",
+    },
+];
+
+/// The second boot of a script asks again, from the next port, and gets the next session.
+const TWO_BOOTS: Boot = Boot {
+    head: LIFE,
+    lines: b"tftp C0A80102 42*5\nboot\nboot\n",
+    output: b"Psent 2 2 R;served 3 2;sent 3 3 S4096T00030001.42*5;got 4 3;sent 4 4 C4096 00040001;boot unbuilt whoami program 42*5;sent 4 5 Q;served 5 4;served 5 5;sent 5 6 A;got 6 6;sent 6 7 udp 192.168.1.2:2049 192.168.1.1:69 00014330413830313032006f6374657400;served 7 7;sent 7 8 udp 192.168.1.1:4097 192.168.1.2:2049 00030001.42*5;got 8 8;sent 8 9 udp 192.168.1.2:2049 192.168.1.1:4097 00040001;boot unbuilt whoami program 42*5;",
+};
+
+/// These texts as one.
+fn joined(alloc: Global, parts: &[&[u8]]) -> Result<ByteList, NoMemory> {
+    let mut text = ByteList::empty(alloc);
+    for part in parts {
+        text.push_slice(part)?;
+    }
+    Ok(text)
+}
+
+/// What a byte of an abbreviated output stands for: `P` is how the client learns its address, `C` begins a datagram to a port of the
+/// server, `S` one from a port of the server, and `T` ends its heading.
+fn expanded(byte: &u8) -> &[&[u8]] {
+    match *byte {
+        b';' => &[b"\n"],
+        b'P' => &[
+            b"sent 0 0 ",
+            QUESTION,
+            b"\nserved 1 0\nsent 1 1 ",
+            ADDRESS,
+            b"\ngot 2 1\n",
+        ],
+        b'Q' => &[QUESTION],
+        b'A' => &[ADDRESS],
+        b'R' => &[REQUEST],
+        b'C' => &[b"udp 192.168.1.2:2048 192.168.1.1:"],
+        b'S' => &[b"udp 192.168.1.1:"],
+        b'T' => &[b" 192.168.1.2:2048 "],
+        _ => &[],
+    }
+}
+
+/// An output without its abbreviations.
+fn whole(alloc: Global, output: &[u8]) -> Result<ByteList, NoMemory> {
+    let mut text = ByteList::empty(alloc);
+    for byte in output {
+        let parts = expanded(byte);
+        if parts.is_empty() {
+            text.push_slice(&[*byte])?;
+        }
+        for part in parts {
+            text.push_slice(part)?;
+        }
+    }
+    Ok(text)
+}
+
+/// Plays a script, and compares its output.
+fn plays(rt: &impl Abort, alloc: Global, boot: &Boot) -> Result<(), Fail> {
+    let script = joined(alloc, &[boot.head, MACHINES, boot.lines])?;
+    let wanted = whole(alloc, boot.output)?;
+    let (status, output) = ran(alloc, &["replay"], script.as_slice())?;
+    assert_eq!(rt; status, 0);
+    assert_eq!(rt; output.as_slice(), wanted.as_slice());
+    Ok(())
+}
+
+#[test]
+fn boots(rt: HostRuntime) -> Result<(), Fail> {
+    for boot in &BOOTS {
+        plays(&rt, rt.alloc(), boot)?;
+    }
+    Ok(())
+}
+
+#[test]
+fn boots_twice(rt: HostRuntime) -> Result<(), Fail> {
+    plays(&rt, rt.alloc(), &TWO_BOOTS)
+}
+
+/// Plays a script with this fate line, and compares the last line of its output.
+fn ends(rt: &impl Abort, alloc: Global, lines: &[&[u8]], answer: &[u8]) -> Result<(), Fail> {
+    let script = joined(alloc, lines)?;
+    let (status, output) = ran(alloc, &["replay"], script.as_slice())?;
+    assert_eq!(rt; status, 0);
+    assert!(rt; output.as_slice().ends_with(answer));
+    Ok(())
+}
+
+/// The packets of a calm boot from three blocks: the question and its answer, the request, and three blocks with their ACKs.
+const PACKETS: [&[u8]; 9] = [b"0", b"1", b"2", b"3", b"4", b"5", b"6", b"7", b"8"];
+
+const THREE_BLOCKS: &[u8] = b"tftp C0A80102 42*1100\n";
+
+/// A boot from three blocks brings all of them, whatever becomes of any one packet.
+fn boots_whatever_comes(rt: &impl Abort, alloc: Global, delays: &[u8]) -> Result<(), Fail> {
+    for id in &PACKETS {
+        let lines = [
+            LIFE,
+            MACHINES,
+            THREE_BLOCKS,
+            b"fate ",
+            *id,
+            b" ",
+            delays,
+            b"\nboot\n",
+        ];
+        ends(
+            rt,
+            alloc,
+            &lines,
+            b"\nboot unbuilt whoami program 42*1100\n",
+        )?;
+    }
+    Ok(())
+}
+
+#[test]
+fn boots_though_a_packet_is_lost(rt: HostRuntime) -> Result<(), Fail> {
+    boots_whatever_comes(&rt, rt.alloc(), b"none")
+}
+
+#[test]
+fn boots_though_a_packet_is_repeated(rt: HostRuntime) -> Result<(), Fail> {
+    boots_whatever_comes(&rt, rt.alloc(), b"1 1")
+}
+
+#[test]
+fn boots_though_a_packet_comes_again_late(rt: HostRuntime) -> Result<(), Fail> {
+    boots_whatever_comes(&rt, rt.alloc(), b"1 9")
+}
+
+#[test]
+fn boots_though_a_packet_is_late(rt: HostRuntime) -> Result<(), Fail> {
+    boots_whatever_comes(&rt, rt.alloc(), b"9")
+}
+
+/// Two requests come eight times each at tick 14.
+const SIXTEEN_SESSIONS: &[u8] =
+    b"tftp C0A80102 42*600\nfate 2 12 12 12 12 12 12 12 12\nfate 3 7 7 7 7 7 7 7 7\n";
+
+#[test]
+fn boots_from_the_first_of_sixteen_sessions(rt: HostRuntime) -> Result<(), Fail> {
+    let lines = [
+        LONG_LIFE,
+        MACHINES,
+        SIXTEEN_SESSIONS,
+        b"fate 4 none\nboot\n",
+    ];
+    ends(
+        &rt,
+        rt.alloc(),
+        &lines,
+        b"\nboot unbuilt whoami program 42*600\n",
+    )
+}
+
+/// The seventeenth session ends the first, whose port then knows no transfer.
+#[test]
+fn finds_the_oldest_session_ended(rt: HostRuntime) -> Result<(), Fail> {
+    let lines = [LONG_LIFE, MACHINES, SIXTEEN_SESSIONS, b"fate 4 2\nboot\n"];
+    ends(&rt, rt.alloc(), &lines, b"\nboot refused tftp 5\n")
+}

@@ -1,0 +1,96 @@
+//! How the client boots, as far as that is built: RARP, and then TFTP from the responder.
+ghost use Rattle.std.specs.Prelude.{◌≡◌, ◌≤◌, ◌+◌, ◌%◌, IfOk, OnOk};
+ghost use Rattle.sd_script.specs.declared.script.Command.TheVariants as commands;
+ghost use Rattle.sd_outside.specs.Causes.{Rose};
+ghost use Rattle.sd_link.specs.Config.{IsArch};
+ghost use Rattle.sd_link.specs.Link.{Moves};
+ghost use Rattle.sd_link.specs.Program.{program_name};
+ghost use Rattle.sd_tftp.specs.Grammar.{HasNoZero};
+ghost use Rattle.sd_claims.specs.Fetching.{Fetch};
+ghost use Rattle.sd_rpc_retry.specs.Lasting.{Lasts};
+ghost use Rattle.sd_boot_chain.specs.Durations.{most_ticks, most_fetch_ticks};
+ghost use Rattle.sd_boot_chain.specs.Fetch.{IsFetch, fetch_of};
+ghost use Rattle.sd_boot_chain.specs.Boot.{task_of, IsFetchAnswer};
+ghost use Rattle.sd_boot_chain.specs.Step.{IsFault, IsDone};
+ghost use Rattle.sd_boot_chain.specs.Address.{shows_learned};
+
+use crate::address::Learned;
+use crate::client::Client;
+use crate::fetch::{Fetched, fetch};
+use sd_link::{Link, Stage};
+use sd_outside::{ByteList, NoMemory};
+use sd_rpc_retry::Asked;
+use sd_script::Told;
+use std::alloc::Global;
+
+/// The address as eight hexadecimal digits, and the architecture after a dot.
+fn address_name(alloc: Global, arch: &[u8], ip: u32) -> Result<ByteList, NoMemory>
+    ensures { IfOk result (λ name. name ≡ program_name arch.now ip) }
+{
+    let mut name = ByteList::from_vec(hex::encode_upper(alloc, ip.to_be_bytes())?.into_bytes());
+    if !arch.is_empty() {
+        name.push_slice(b".")?;
+        name.push_slice(arch)?;
+    }
+    Ok(name)
+}
+
+/// The name under which a client with this architecture and this address asks for its boot program.
+pub(crate) fn program_name(alloc: Global, arch: &[u8], ip: u32) -> Result<ByteList, NoMemory>
+    requires { IsArch arch.now }
+    ensures name { IfOk result (λ name. name ≡ program_name arch.now ip) }
+    ensures clean { IfOk result HasNoZero }
+{
+    let name = address_name(alloc, arch, ip)?;
+    Ok(name)
+}
+
+impl Client {
+    /// Boots as far as that is built, and answers the command.
+    pub fn boot<L: Link>(&mut self, link: &mut L) -> Result<Told, NoMemory>
+        ensures same { self.new.config ≡ self.old.config }
+        // Over a link that tells, and whose count of faults didn't rise, the answer is earned or caused by what happened.
+        ensures caused { (Rose (L.faults link.old) (L.faults link.new) → ⊥) → IfOk result (λ answer.
+            Moves (L.told link.old) (L.told link.new) (IsDone self.old commands.Boot answer self.new.boots)) }
+        ensures lasts { Lasts most_ticks (L.told link.old) (L.told link.new) }
+        ensures fault { IfOk result (λ answer. IsFault answer → Rose (L.faults link.old) (L.faults link.new)) }
+        ensures faults { L.faults link.old ≤ L.faults link.new }
+        ensures drained { L.drained link.new ≡ L.drained link.old }
+    {
+        let asked = self.learn_address(link)?;
+        match asked {
+            Asked::Answer(learned) => self.fetch_program(link, learned),
+            Asked::Timeout => Ok(Told::BootTimeout { step: Stage::Rarp }),
+            Asked::Flood => Ok(Told::BootFlood { step: Stage::Rarp }),
+            Asked::Fault => Ok(Told::BootLinkFault),
+        }
+    }
+
+    /// Fetches the boot program from the responder, from the next port.
+    fn fetch_program<L: Link>(&mut self, link: &mut L, learned: Learned) -> Result<Told, NoMemory>
+        ensures same { self.new.config ≡ self.old.config }
+        ensures counted { OnOk result (self.new.boots ≡ (self.old.boots + 1) % 32768) }
+        ensures told { IfOk result (λ answer. Moves (L.told link.old) (L.told link.new) (λ old part. IsFetchAnswer (task_of self.old (shows_learned learned)) answer part)) }
+        ensures lasts { Lasts most_fetch_ticks (L.told link.old) (L.told link.new) }
+        ensures fault { IfOk result (λ answer. IsFault answer → Rose (L.faults link.old) (L.faults link.new)) }
+        ensures faults { L.faults link.old ≤ L.faults link.new }
+        ensures drained { L.drained link.new ≡ L.drained link.old }
+    {
+        let task = self.program_task(learned)?;
+        self.count_boot();
+        match fetch(self.alloc(), link, &task)? {
+            Fetched::File(program) => Ok(Told::BootUnbuilt {
+                step: Stage::Whoami,
+                program,
+            }),
+            Fetched::Timeout => Ok(Told::BootTimeout { step: Stage::Tftp }),
+            Fetched::Flood => Ok(Told::BootFlood { step: Stage::Tftp }),
+            Fetched::Refused(code) => Ok(Told::BootRefused {
+                step: Stage::Tftp,
+                status: code as u32,
+            }),
+            Fetched::TooLarge(size) => Ok(Told::BootTooLarge { size }),
+            Fetched::Fault => Ok(Told::BootLinkFault),
+        }
+    }
+}

@@ -1,0 +1,108 @@
+-- What the server sends: from which ports, and which frames.
+use Rattle.std.proofs.Common.{◌≡◌, ℕ, Bool, true, false, cond, List, [], length, Some, None, Result, Ok, Err, refl, sym, ◌∙◌, ap, subst, arith, inr}
+use Rattle.std.proofs.lemmas.Slice.Eq.{bytes_eq-Decides}
+use Rattle.std.specs.Prelude.{slice_get}
+use Rattle.std.specs.Option.{option_map}
+use Rattle.std.specs.List.{AllByRecursion}
+use Rattle.sd_outside.specs.declared.packet.Addr.{Addr}
+use Rattle.sd_outside.specs.declared.packet.Mac.{Mac}
+use Rattle.sd_outside.specs.declared.packet.Packet.{Packet}
+use Rattle.sd_outside.specs.declared.packet.Packet.TheVariants.{Frame, Udp}
+use Rattle.sd_rarp.specs.declared.frame.RarpFrame.{RarpFrame}
+use Rattle.sd_rarp.specs.declared.frame.RarpFrame.TheVariants.{Request, Reply}
+use Rattle.sd_rarp.specs.declared.frame.RarpError.{RarpError}
+use Rattle.sd_rarp.specs.Frame.{reading, frame_bytes}
+use Rattle.sd_rarp.specs.Answer.{is_mac, reply_with}
+use Rattle.sd_tftp.specs.declared.packet.TftpPacket.TheVariants.{Rrq}
+use Rattle.sd_tftp.specs.Reading as tftp
+use Rattle.sd_rarp.proofs.RoundTrip.{reading-reply}
+use Rattle.sd_rarp.proofs.Fields.{request_at, mac_wide}
+use Rattle.sd_link.specs.declared.config.Config.{Config}
+use Rattle.sd_link.specs.Config.{IsConfig}
+use Rattle.sd_link.specs.World.{World, Flying, Server, Session, start}
+use Rattle.sd_link.specs.Sessions.{present_block}
+use Rattle.sd_link.specs.Reply.{rarp_answer, as_frame}
+use Rattle.sd_link.specs.Steps.{Step, run, AllAllowed}
+use Rattle.sd_link.specs.Parts.{sends_in, got_in}
+use Rattle.sd_link.proofs.NoRequests.{block_asks_not, error_asks_not}
+use Rattle.sd_link.proofs.InFlight.{all_always, all_at, IsTftpPort, Rules, AllRequests, SentFine, FlyingFine, Keeps, keeps_run, keeps_got}
+
+-- the frame tells the client its address and the server's
+pub record TellsAddresses (c : Config) (bytes : List ℕ) : Type 0 where
+  pub src : Mac
+  pub reads : reading bytes ≡ Ok (Reply src c.server.mac c.server.mac c.server.ip c.client.mac c.client.ip)
+
+-- a datagram from the server's address and a port of TFTP, which is no request for a file
+pub record IsServersDatagram (c : Config) (src : Addr) (body : List ℕ) : Type 0 where
+  pub ip : src.ip ≡ c.server.ip
+  pub port : IsTftpPort src.port
+  pub no_request : (name mode : List ℕ) → tftp.reading body ≡ Ok (Rrq name mode) → ⊥
+
+-- what the server sends: such frames and datagrams
+abbrev pub IsServers : Config → Packet → Type 0
+IsServers c (Frame bytes) = TellsAddresses c bytes
+IsServers c (Udp src dst body) = IsServersDatagram c src body
+
+-- anything
+abbrev pub AnyPacket : Packet → Type 0
+AnyPacket packet = Unit {0}
+
+abbrev pub AnySession : Session → Type 0
+AnySession s = Unit {0}
+
+abbrev pub AnyRequest : Addr → List ℕ → Type 0
+AnyRequest from name = Unit {0}
+
+mac_of : List ℕ → Mac
+mac_of bytes = record { 0 = bytes }
+
+same_mac : (a b : Mac) → is_mac a b ≡ true → a ≡ b
+unfolding mac_of
+same_mac a b e = ap mac_of ((bytes_eq-Decides a.0 b.0).0 e)
+
+module _ (c : Config) (is : IsConfig c) where
+  reply_tells : (src target : Mac) → length src.0 ≡ 6 → target ≡ c.client.mac → TellsAddresses c (frame_bytes (Reply src c.server.mac c.server.mac c.server.ip target c.client.ip))
+  reply_tells src target s t = subst (λ (m : Mac). TellsAddresses c (frame_bytes (Reply src c.server.mac c.server.mac c.server.ip m c.client.ip))) (sym t) (record {
+    src = src;
+    reads = reading-reply src c.server.mac c.server.mac c.server.ip c.client.mac c.client.ip s is.server.mac.wide is.server.mac.wide is.client.mac.wide (omega (arith, is.server.ip.1)) (omega (arith, is.client.ip.1));
+  })
+
+  with_tells : (src target : Mac) → length src.0 ≡ 6 → (b : Bool) → is_mac c.client.mac target ≡ b
+      → AllByRecursion (IsServers c) (as_frame (reply_with (c.server.mac, c.server.ip) src target (option_map (λ (entry : Mac × ℕ). entry.1) (cond b (Some (c.client.mac, c.client.ip)) None))))
+  with_tells src target s true e = (reply_tells src target s (sym (same_mac c.client.mac target e)), tt)
+  with_tells src target s false e = tt
+
+  answer_tells : (bytes : List ℕ) (r : Result RarpFrame RarpError) → reading bytes ≡ r → AllByRecursion (IsServers c) (as_frame (rarp_answer c r))
+  answer_tells bytes (Err why) e = tt
+  answer_tells bytes (Ok (Reply dst src sender sender_ip target target_ip)) e = tt
+  answer_tells bytes (Ok (Request dst src sender target)) e =
+      let at = request_at bytes dst src sender target e in
+      let s : length src.0 ≡ 6 = ap (λ (m : Mac). length m.0) at.1 ∙ mac_wide bytes 6 (omega (arith, at.0)) in
+      with_tells src target s (is_mac c.client.mac target) refl
+
+  server_rules : Rules c (IsServers c) AnySession AnyRequest
+  server_rules = record {
+    frames = λ bytes. answer_tells bytes (reading bytes) refl;
+    errors = λ port to code is lt. record { ip = refl; port = is; no_request = error_asks_not code [] };
+    blocks = λ s h. record { ip = refl; port = inr (omega arith, omega arith); no_request = block_asks_not s.block (present_block c s) };
+    first = λ part tick from name bytes r is. tt;
+    again = λ tick s h. tt;
+    onward = λ tick s h whole. tt;
+  }
+
+  any_requests : (w : World) → AllRequests AnyRequest w
+  any_requests w id f e from to body name mode is reads = tt
+
+  module _ (S : Packet → Type 0) where
+    -- Where the client's packets are such, the server's are so too.
+    pub servers_run : (w : World) (steps : List Step) → Keeps S (IsServers c) AnySession w → AllByRecursion S (sends_in steps) → Keeps S (IsServers c) AnySession (run c w steps)
+    servers_run w steps h s = keeps_run c (IsServers c) AnySession AnyRequest server_rules S w steps h s (any_requests (run c w steps))
+
+    pub servers_got : (w : World) (steps : List Step) → Keeps S (IsServers c) AnySession w → AllByRecursion S (sends_in steps) → AllAllowed c w steps → AllByRecursion (IsServers c) (got_in steps)
+    servers_got w steps h s all = keeps_got c (IsServers c) AnySession AnyRequest server_rules S w steps h s (any_requests (run c w steps)) all
+
+  -- Every packet of the server in flight is one that it sends.
+  pub sent_by_server : (steps : List Step) (id : ℕ) (f : Flying) → slice_get (run c (start c) steps).flight id ≡ Some f → f.from ≡ Server → IsServers c f.packet
+  sent_by_server steps id f at from =
+      let k = servers_run AnyPacket (start c) steps (tt, tt) (all_always AnyPacket (sends_in steps) (λ p. tt)) in
+      subst (λ s. SentFine AnyPacket (IsServers c) s f.packet) from (all_at (FlyingFine AnyPacket (IsServers c)) (run c (start c) steps).flight id f k.0 at)

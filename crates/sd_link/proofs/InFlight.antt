@@ -1,0 +1,332 @@
+-- What holds of every packet in flight and of every session, where it holds of what each step adds.
+use Rattle.std.proofs.Common.{◌≡◌, ℕ, zero, suc, ◌-◌, ◌<◌, ◌≤◌, ◌^◌, Bool, true, false, cond, List, [], ◌∷◌, ◌++◌, length, map, drop, filter, Option, Some, None, Result, Ok, Err, refl, sym, ◌∙◌, ap, subst, arith, inl, inr, ◌⊎◌}
+use Rattle.std.proofs.lemmas.Bool.{ltb-false, ltb-true, leb-true}
+use Rattle.std.proofs.lemmas.List.{append-nil}
+use Rattle.std.specs.Prelude.{slice_get, not, nat_lt, nat_le, ◌==◌, ◌&&◌}
+use Rattle.std.specs.List.{All, AllByRecursion, find}
+use Rattle.sd_outside.specs.declared.packet.Addr.{Addr}
+use Rattle.sd_outside.specs.declared.packet.Packet.{Packet}
+use Rattle.sd_outside.specs.declared.packet.Packet.TheVariants.{Frame, Udp}
+use Rattle.sd_tftp.specs.declared.packet.TftpPacket.{TftpPacket}
+use Rattle.sd_tftp.specs.declared.packet.TftpPacket.TheVariants.{Rrq, Wrq, Block, Ack, Error}
+use Rattle.sd_tftp.specs.declared.packet.TftpError.{TftpError}
+use Rattle.sd_tftp.specs.Reading.{reading}
+use Rattle.sd_link.specs.declared.config.Config.{Config}
+use Rattle.sd_link.specs.Config.{IsWithin}
+use Rattle.sd_link.specs.Program.{boot_file}
+use Rattle.sd_link.specs.World.{World, Flying, Sender, Client, Server, Session, ServerPart, Replied, silence, sent_by}
+use Rattle.sd_link.specs.Sessions.{tftp_port, is_session_port, tftp_packet, tftp_error, block_packet, present_block, session_in, with_session, sent_again, next_block, new_session, is_octet, is_session_of, asked_for, requested, ended, acknowledged, heard, not_known, heard_by, transferred, tftp_reply}
+use Rattle.sd_link.specs.Reply.{rarp_out, reply, out_of}
+use Rattle.sd_link.specs.Steps.{Step, Tick, Send, Serve, Data, End, Get, after, served, resent, run, AllAllowed, goes_to_client}
+use Rattle.sd_link.specs.Parts.{sends_in, got_in}
+use Rattle.sd_link.specs.Requests.{AsksOnlyFor, KeepsOffRpc}
+
+-- ---- lists
+
+pub all_append : {A : Type 0} (P : A → Type 0) (xs ys : List A) → AllByRecursion P xs → AllByRecursion P ys → AllByRecursion P (xs ++ ys)
+all_append P [] ys first second = second
+all_append P (x ∷ xs) ys first second = (first.0, all_append P xs ys first.1 second)
+
+pub all_split : {A : Type 0} (P : A → Type 0) (xs ys : List A) → AllByRecursion P (xs ++ ys) → AllByRecursion P xs × AllByRecursion P ys
+all_split P [] ys all = (tt, all)
+all_split P (x ∷ xs) ys all = let s = all_split P xs ys all.1 in ((all.0, s.0), s.1)
+
+pub all_weaker : {A : Type 0} (P R : A → Type 0) (xs : List A) → ((x : A) → P x → R x) → AllByRecursion P xs → AllByRecursion R xs
+all_weaker P R [] so all = tt
+all_weaker P R (x ∷ xs) so all = (so x all.0, all_weaker P R xs so all.1)
+
+pub all_always : {A : Type 0} (P : A → Type 0) (xs : List A) → ((x : A) → P x) → AllByRecursion P xs
+all_always P [] so = tt
+all_always P (x ∷ xs) so = (so x, all_always P xs so)
+
+-- from places to recursion
+pub all_recursive : {A : Type 0} (P : A → Type 0) (xs : List A) → All P xs → AllByRecursion P xs
+all_recursive P [] all = tt
+all_recursive P (x ∷ xs) all = (all 0 x (omega arith), all_recursive P xs (λ i d lt. all (suc i) d (omega (arith, lt))))
+
+all_drop : {A : Type 0} (P : A → Type 0) (n : ℕ) (xs : List A) → AllByRecursion P xs → AllByRecursion P (drop n xs)
+all_drop P zero xs all = all
+all_drop P (suc n) [] all = tt
+all_drop P (suc n) (x ∷ xs) all = all_drop P n xs all.1
+
+all_filter : {A : Type 0} (P : A → Type 0) (p : A → Bool) (xs : List A) → AllByRecursion P xs → AllByRecursion P (filter p xs)
+all_filter P p [] all = tt
+all_filter P p (x ∷ xs) all = of (p x) (all_filter P p xs all.1)
+  where
+    of : (b : Bool) → AllByRecursion P (filter p xs) → AllByRecursion P (cond b (x ∷ filter p xs) (filter p xs))
+    of true more = (all.0, more)
+    of false more = more
+
+all_map : {A B : Type 0} (P : A → Type 0) (R : B → Type 0) (f : A → B) (xs : List A) → ((x : A) → P x → R (f x)) → AllByRecursion P xs → AllByRecursion R (map f xs)
+all_map P R f [] so all = tt
+all_map P R f (x ∷ xs) so all = (so x all.0, all_map P R f xs so all.1)
+
+some_is : {A : Type 0} (x y : A) → Some x ≡ Some y → x ≡ y
+some_is x y e = cc
+
+pub all_found : {A : Type 0} (P : A → Type 0) (p : A → Bool) (xs : List A) (x : A) → AllByRecursion P xs → find p xs ≡ Some x → P x
+all_found P p [] x all e = absurd (cc)
+all_found P p (y ∷ ys) x all e = of (λ h. all_found P p ys x all.1 h) (p y) e
+  where
+    of : (find p ys ≡ Some x → P x) → (b : Bool) → cond b (Some y) (find p ys) ≡ Some x → P x
+    of later true e = subst P (some_is y x e) all.0
+    of later false e = later e
+
+pub all_at : {A : Type 0} (P : A → Type 0) (xs : List A) (i : ℕ) (x : A) → AllByRecursion P xs → slice_get xs i ≡ Some x → P x
+all_at P [] i x all e = absurd (cc)
+all_at P (y ∷ ys) zero x all e = subst P (some_is y x e) all.0
+all_at P (y ∷ ys) (suc i) x all e = all_at P ys i x all.1 e
+
+get_front : {A : Type 0} (xs ys : List A) (i : ℕ) (x : A) → slice_get xs i ≡ Some x → slice_get (xs ++ ys) i ≡ Some x
+get_front [] ys i x e = absurd (cc)
+get_front (y ∷ xs) ys zero x e = e
+get_front (y ∷ xs) ys (suc i) x e = get_front xs ys i x e
+
+-- ---- nothing leaves the flight
+
+abbrev Grown : World → World → Type 0
+Grown w v = (more : List Flying) × (v.flight ≡ w.flight ++ more)
+
+grown_not : (w : World) → Grown w w
+grown_not w = ([], sym (append-nil w.flight))
+
+grown_by : (w : World) (from : Sender) (packets : List Packet) → Grown w (sent_by from w packets)
+grown_by w from packets = (map (λ packet. record { from = from; tick = w.tick; packet = packet }) packets, refl)
+
+grown_served : (c : Config) (w : World) (f : Option Flying) → Grown w (served c w f)
+grown_served c w None = grown_not w
+grown_served c w (Some f) = (map (λ packet. record { from = Server; tick = w.tick; packet = packet }) (out_of c w.tick w.server f.packet), refl)
+
+grown_resent : (c : Config) (w : World) (s : Option Session) → Grown w (resent c w s)
+grown_resent c w None = grown_not w
+grown_resent c w (Some s) = (record { from = Server; tick = w.tick; packet = block_packet c s } ∷ [], refl)
+
+grown_after : (c : Config) (w : World) (step : Step) → Grown w (after c w step)
+grown_after c w Tick = grown_not w
+grown_after c w (Send packet) = grown_by w Client (packet ∷ [])
+grown_after c w (Serve id) = grown_served c w (slice_get w.flight id)
+grown_after c w (Data number) = grown_resent c w (session_in number w.server.sessions)
+grown_after c w (End number) = grown_not w
+grown_after c w (Get id packet) = grown_not w
+
+stays_after : (c : Config) (w : World) (step : Step) (id : ℕ) (f : Flying) → slice_get w.flight id ≡ Some f → slice_get (after c w step).flight id ≡ Some f
+stays_after c w step id f e =
+    let g = grown_after c w step in
+    ap (λ (l : List Flying). slice_get l id) g.1 ∙ get_front w.flight g.0 id f e
+
+-- What was sent stays in flight.
+pub stays_in_flight : (c : Config) (w : World) (steps : List Step) (id : ℕ) (f : Flying) → slice_get w.flight id ≡ Some f → slice_get (run c w steps).flight id ≡ Some f
+stays_in_flight c w [] id f e = e
+stays_in_flight c w (step ∷ steps) id f e = stays_in_flight c (after c w step) steps id f (stays_after c w step id f e)
+
+-- Who asks only for one file has asked for no other before.
+pub asked_before : (c : Config) (w : World) (steps : List Step) (me : Addr) (name : List ℕ) → AsksOnlyFor me name (run c w steps) → AsksOnlyFor me name w
+asked_before c w steps me name asks id f to body asked mode e = asks id f to body asked mode (stays_in_flight c w steps id f e)
+
+-- Who keeps off the RPC ports has kept off before.
+pub kept_off_before : (c : Config) (w : World) (steps : List Step) (me : Addr) → KeepsOffRpc me (run c w steps) → KeepsOffRpc me w
+kept_off_before c w steps me keeps id f to body e = keeps id f to body (stays_in_flight c w steps id f e)
+
+-- ---- what the server adds
+
+-- the ports from which the server answers
+abbrev pub IsTftpPort : ℕ → Type 0
+IsTftpPort port = (port ≡ 69) ⊎ IsWithin 4096 8191 port
+
+-- P holds of each packet that the server sends and Q of each session, where R holds of who asked and for which name.
+pub record Rules (c : Config) (P : Packet → Type 0) (Q : Session → Type 0) (R : Addr → List ℕ → Type 0) : Type 0 where
+  pub frames : (bytes : List ℕ) → AllByRecursion P (rarp_out c bytes)
+  pub errors : (port : ℕ) (to : Addr) (code : ℕ) → IsTftpPort port → code < 2 ^ 16 → P (tftp_packet c port to (Error code []))
+  pub blocks : (s : Session) → Q s → P (block_packet c s)
+  pub first : (part : ServerPart) (tick : ℕ) (from : Addr) (name bytes : List ℕ) → R from name → boot_file c name ≡ Some bytes → Q (new_session part tick from name)
+  pub again : (tick : ℕ) (s : Session) → Q s → Q (sent_again tick s)
+  pub onward : (tick : ℕ) (s : Session) → Q s → 512 ≤ length (present_block c s) → Q (next_block tick s)
+
+-- a request for a file is such
+abbrev pub Requests : (Addr → List ℕ → Type 0) → Packet → Type 0
+Requests R packet = (from to : Addr) (body name mode : List ℕ) → packet ≡ Udp from to body → reading body ≡ Ok (Rrq name mode) → R from name
+
+-- each request in flight is such
+abbrev pub AllRequests : (Addr → List ℕ → Type 0) → World → Type 0
+AllRequests R w = (id : ℕ) (f : Flying) → slice_get w.flight id ≡ Some f → Requests R f.packet
+
+-- what is sent, and the sessions then
+abbrev pub Fine : (Packet → Type 0) → (Session → Type 0) → Replied → Type 0
+Fine P Q r = AllByRecursion P r.out × AllByRecursion Q r.next.sessions
+
+-- what was sent by either
+abbrev pub SentFine : (Packet → Type 0) → (Packet → Type 0) → Sender → Packet → Type 0
+SentFine S P Client packet = S packet
+SentFine S P Server packet = P packet
+
+abbrev pub FlyingFine : (Packet → Type 0) → (Packet → Type 0) → Flying → Type 0
+FlyingFine S P f = SentFine S P f.from f.packet
+
+-- S holds of each packet of the client in flight, P of each of the server, and Q of each session.
+abbrev pub Keeps : (Packet → Type 0) → (Packet → Type 0) → (Session → Type 0) → World → Type 0
+Keeps S P Q w = AllByRecursion (FlyingFine S P) w.flight × AllByRecursion Q w.server.sessions
+
+module _ (c : Config) (P : Packet → Type 0) (Q : Session → Type 0) (R : Addr → List ℕ → Type 0) (k : Rules c P Q R) where
+  erred : (part : ServerPart) (port : ℕ) (to : Addr) (code : ℕ) → IsTftpPort port → code < 2 ^ 16 → AllByRecursion Q part.sessions → Fine P Q (record { out = tftp_error c port to code; next = part })
+  erred part port to code is lt q = ((k.errors port to code is lt, tt), q)
+
+  -- ---- port 69
+
+  asked_fine : (tick : ℕ) (part : ServerPart) (from : Addr) (name : List ℕ) (o : Option (List ℕ)) → R from name → boot_file c name ≡ o → AllByRecursion Q part.sessions → Fine P Q (asked_for c tick part from name o)
+  asked_fine tick part from name None r is q = erred part tftp_port from 1 (inl refl) (omega arith) q
+  asked_fine tick part from name (Some bytes) r is q =
+      let s = k.first part tick from name bytes r is in
+      ((k.blocks (new_session part tick from name) s, tt), all_append Q (drop (length part.sessions - 15) part.sessions) (new_session part tick from name ∷ []) (all_drop Q (length part.sessions - 15) part.sessions q) (s, tt))
+
+  read_fine : (tick : ℕ) (part : ServerPart) (from : Addr) (name : List ℕ) (octet : Bool) → R from name → AllByRecursion Q part.sessions
+      → Fine P Q (cond octet (asked_for c tick part from name (boot_file c name)) (record { out = tftp_error c tftp_port from 4; next = part }))
+  read_fine tick part from name true r q = asked_fine tick part from name (boot_file c name) r refl q
+  read_fine tick part from name false r q = erred part tftp_port from 4 (inl refl) (omega arith) q
+
+  requested_fine : (tick : ℕ) (part : ServerPart) (from : Addr) (o : Result TftpPacket TftpError) → ((name mode : List ℕ) → o ≡ Ok (Rrq name mode) → R from name) → AllByRecursion Q part.sessions
+      → Fine P Q (requested c tick part from o)
+  requested_fine tick part from (Ok (Rrq name mode)) r q = read_fine tick part from name (is_octet mode) (r name mode refl) q
+  requested_fine tick part from (Ok (Wrq name mode)) r q = erred part tftp_port from 2 (inl refl) (omega arith) q
+  requested_fine tick part from (Ok (Block n body)) r q = (tt, q)
+  requested_fine tick part from (Ok (Ack n)) r q = (tt, q)
+  requested_fine tick part from (Ok (Error code message)) r q = (tt, q)
+  requested_fine tick part from (Err why) r q = (tt, q)
+
+  -- ---- a session's port
+
+  put_fine : (new : Session) (sessions : List Session) → Q new → AllByRecursion Q sessions → AllByRecursion Q (with_session new sessions)
+  put_fine new sessions n q = all_map Q Q (λ s. cond (s.number == new.number) new s) sessions (λ s h. of s (s.number == new.number) h) q
+    where
+      of : (s : Session) (b : Bool) → Q s → Q (cond b new s)
+      of s true h = n
+      of s false h = h
+
+  ended_fine : (part : ServerPart) (s : Session) → AllByRecursion Q part.sessions → Fine P Q (ended part s)
+  ended_fine part s q = (tt, all_filter Q (λ r. not (r.number == s.number)) part.sessions q)
+
+  acknowledged_fine : (tick : ℕ) (part : ServerPart) (s : Session) → Q s → AllByRecursion Q part.sessions → Fine P Q (acknowledged c tick part s)
+  acknowledged_fine tick part s h q = of (nat_lt (length (present_block c s)) 512) refl
+    where
+      of : (b : Bool) → nat_lt (length (present_block c s)) 512 ≡ b
+          → Fine P Q (cond b (ended part s) (record { out = block_packet c (next_block tick s) ∷ []; next = record part { sessions = with_session (next_block tick s) part.sessions } }))
+      of true e = ended_fine part s q
+      of false e =
+          let n = k.onward tick s h (ltb-false (length (present_block c s)) 512 e) in
+          ((k.blocks (next_block tick s) n, tt), put_fine (next_block tick s) part.sessions n q)
+
+  heard_fine : (tick : ℕ) (part : ServerPart) (s : Session) (packet : TftpPacket) → Q s → AllByRecursion Q part.sessions → Fine P Q (heard c tick part s packet)
+  heard_fine tick part s (Ack n) h q = of (n == s.block)
+    where
+      of : (b : Bool) → Fine P Q (cond b (acknowledged c tick part s) (silence part))
+      of true = acknowledged_fine tick part s h q
+      of false = (tt, q)
+  heard_fine tick part s (Error code message) h q = ended_fine part s q
+  heard_fine tick part s (Block n body) h q = (tt, q)
+  heard_fine tick part s (Rrq name mode) h q = (tt, q)
+  heard_fine tick part s (Wrq name mode) h q = (tt, q)
+
+  not_known_fine : (part : ServerPart) (port : ℕ) (from : Addr) (packet : TftpPacket) → IsTftpPort port → AllByRecursion Q part.sessions → Fine P Q (not_known c part port from packet)
+  not_known_fine part port from (Error code message) is q = (tt, q)
+  not_known_fine part port from (Ack n) is q = erred part port from 5 is (omega arith) q
+  not_known_fine part port from (Block n body) is q = erred part port from 5 is (omega arith) q
+  not_known_fine part port from (Rrq name mode) is q = erred part port from 5 is (omega arith) q
+  not_known_fine part port from (Wrq name mode) is q = erred part port from 5 is (omega arith) q
+
+  heard_by_fine : (tick : ℕ) (part : ServerPart) (port : ℕ) (from : Addr) (packet : TftpPacket) (o : Option Session) → find (is_session_of port from) part.sessions ≡ o → IsTftpPort port → AllByRecursion Q part.sessions
+      → Fine P Q (heard_by c tick part port from packet o)
+  heard_by_fine tick part port from packet (Some s) e is q = heard_fine tick part s packet (all_found Q (is_session_of port from) part.sessions s q e) q
+  heard_by_fine tick part port from packet None e is q = not_known_fine part port from packet is q
+
+  transferred_fine : (tick : ℕ) (part : ServerPart) (port : ℕ) (from : Addr) (o : Result TftpPacket TftpError) → IsTftpPort port → AllByRecursion Q part.sessions → Fine P Q (transferred c tick part port from o)
+  transferred_fine tick part port from (Ok packet) is q = heard_by_fine tick part port from packet (find (is_session_of port from) part.sessions) refl is q
+  transferred_fine tick part port from (Err why) is q = (tt, q)
+
+  and_first : (a b : Bool) → a && b ≡ true → a ≡ true
+  and_first true b e = refl
+  and_first false b e = absurd (cc)
+
+  and_second : (a b : Bool) → a && b ≡ true → b ≡ true
+  and_second true b e = e
+  and_second false b e = absurd (cc)
+
+  session_port_is : (port : ℕ) → is_session_port port ≡ true → IsTftpPort port
+  session_port_is port e =
+      let low = leb-true 4096 port (and_first (nat_le 4096 port) (nat_lt port 8192) e) in
+      let high = ltb-true port 8192 (and_second (nat_le 4096 port) (nat_lt port 8192) e) in
+      inr (low, omega (arith, high))
+
+  tftp_fine : (tick : ℕ) (part : ServerPart) (from : Addr) (port : ℕ) (body : List ℕ) → ((name mode : List ℕ) → reading body ≡ Ok (Rrq name mode) → R from name) → AllByRecursion Q part.sessions
+      → Fine P Q (tftp_reply c tick part from port body)
+  tftp_fine tick part from port body r q = of (port == tftp_port)
+    where
+      other : (b : Bool) → is_session_port port ≡ b → Fine P Q (cond b (transferred c tick part port from (reading body)) (silence part))
+      other true e = transferred_fine tick part port from (reading body) (session_port_is port e) q
+      other false e = (tt, q)
+
+      of : (b : Bool) → Fine P Q (cond b (requested c tick part from (reading body)) (cond (is_session_port port) (transferred c tick part port from (reading body)) (silence part)))
+      of true = requested_fine tick part from (reading body) r q
+      of false = other (is_session_port port) refl
+
+  -- what the server does with a packet
+  reply_fine : (tick : ℕ) (part : ServerPart) (packet : Packet) → Requests R packet → AllByRecursion Q part.sessions → Fine P Q (reply c tick part packet)
+  reply_fine tick part (Frame bytes) r q = (k.frames bytes, q)
+  reply_fine tick part (Udp src dst body) r q = of (dst.ip == c.server.ip)
+    where
+      of : (b : Bool) → Fine P Q (cond b (tftp_reply c tick part src dst.port body) (silence part))
+      of true = tftp_fine tick part src dst.port body (λ name mode e. r src dst body name mode refl e) q
+      of false = (tt, q)
+
+  -- ---- steps
+
+  module _ (S : Packet → Type 0) where
+    flown_fine : (tick : ℕ) (packets : List Packet) → AllByRecursion P packets → AllByRecursion (FlyingFine S P) (map (λ packet. record { from = Server; tick = tick; packet = packet }) packets)
+    flown_fine tick [] all = tt
+    flown_fine tick (p ∷ ps) all = (all.0, flown_fine tick ps all.1)
+
+    keeps_served : (w : World) (id : ℕ) (o : Option Flying) → slice_get w.flight id ≡ o → AllRequests R w → Keeps S P Q w → Keeps S P Q (served c w o)
+    keeps_served w id None e r h = h
+    keeps_served w id (Some f) e r h =
+        let fine = reply_fine w.tick w.server f.packet (r id f e) h.1 in
+        (all_append (FlyingFine S P) w.flight _ h.0 (flown_fine w.tick (out_of c w.tick w.server f.packet) fine.0), fine.1)
+
+    keeps_resent : (w : World) (number : ℕ) (o : Option Session) → session_in number w.server.sessions ≡ o → Keeps S P Q w → Keeps S P Q (resent c w o)
+    keeps_resent w number None e h = h
+    keeps_resent w number (Some s) e h =
+        let q = all_found Q (λ r. r.number == number) w.server.sessions s h.1 e in
+        (all_append (FlyingFine S P) w.flight _ h.0 (k.blocks s q, tt), put_fine (sent_again w.tick s) w.server.sessions (k.again w.tick s q) h.1)
+
+    keeps_sent : (w : World) (packet : Packet) → S packet → Keeps S P Q w → Keeps S P Q (after c w (Send packet))
+    keeps_sent w packet s h = (all_append (FlyingFine S P) w.flight _ h.0 (s, tt), h.1)
+
+    keeps_ended : (w : World) (number : ℕ) → Keeps S P Q w → Keeps S P Q (after c w (End number))
+    keeps_ended w number h = (h.0, all_filter Q (λ s. not (s.number == number)) w.server.sessions h.1)
+
+    requests_before : (w : World) (steps : List Step) → AllRequests R (run c w steps) → AllRequests R w
+    requests_before w steps r id f e = r id f (stays_in_flight c w steps id f e)
+
+    -- It holds after steps in which the client sends such packets.
+    pub keeps_run : (w : World) (steps : List Step) → Keeps S P Q w → AllByRecursion S (sends_in steps) → AllRequests R (run c w steps) → Keeps S P Q (run c w steps)
+    keeps_run w [] h s r = h
+    keeps_run w (Tick ∷ steps) h s r = keeps_run (after c w Tick) steps h s r
+    keeps_run w (Send packet ∷ steps) h s r = keeps_run (after c w (Send packet)) steps (keeps_sent w packet s.0 h) s.1 r
+    keeps_run w (Serve id ∷ steps) h s r = keeps_run (after c w (Serve id)) steps (keeps_served w id (slice_get w.flight id) refl (requests_before w (Serve id ∷ steps) r) h) s r
+    keeps_run w (Data number ∷ steps) h s r = keeps_run (after c w (Data number)) steps (keeps_resent w number (session_in number w.server.sessions) refl h) s r
+    keeps_run w (End number ∷ steps) h s r = keeps_run (after c w (End number)) steps (keeps_ended w number h) s r
+    keeps_run w (Get id packet ∷ steps) h s r = keeps_run w steps h s r
+
+    from_server : (from : Sender) (packet : Packet) → goes_to_client c from packet ≡ true → SentFine S P from packet → P packet
+    from_server Client packet goes h = absurd (cc)
+    from_server Server packet goes h = h
+
+    -- And what the client gets in them is such.
+    pub keeps_got : (w : World) (steps : List Step) → Keeps S P Q w → AllByRecursion S (sends_in steps) → AllRequests R (run c w steps) → AllAllowed c w steps → AllByRecursion P (got_in steps)
+    keeps_got w [] h s r all = tt
+    keeps_got w (Tick ∷ steps) h s r all = keeps_got (after c w Tick) steps h s r all.1
+    keeps_got w (Send packet ∷ steps) h s r all = keeps_got (after c w (Send packet)) steps (keeps_sent w packet s.0 h) s.1 r all.1
+    keeps_got w (Serve id ∷ steps) h s r all = keeps_got (after c w (Serve id)) steps (keeps_served w id (slice_get w.flight id) refl (requests_before w (Serve id ∷ steps) r) h) s r all.1
+    keeps_got w (Data number ∷ steps) h s r all = keeps_got (after c w (Data number)) steps (keeps_resent w number (session_in number w.server.sessions) refl h) s r all.1
+    keeps_got w (End number ∷ steps) h s r all = keeps_got (after c w (End number)) steps (keeps_ended w number h) s r all.1
+    keeps_got w (Get id packet ∷ steps) h s r all =
+        let a = all.0 in
+        let f = a.0 in
+        (subst P a.3 (from_server f.from f.packet a.2 (all_at (FlyingFine S P) w.flight id f h.0 a.1.sent)), keeps_got w steps h s r all.1)

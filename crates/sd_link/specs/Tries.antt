@@ -1,0 +1,69 @@
+-- A request that is sent again and again until its answer comes.
+use Rattle.std.specs.Prelude.{◌≡◌, ℕ, ◌<◌, ◌≤◌, List, [], ◌∷◌, ◌++◌, length, Option, Some, None}
+use Rattle.std.specs.List.{flat_map, AllByRecursion}
+use Rattle.sd_outside.specs.declared.packet.Packet.{Packet}
+use Rattle.sd_link.specs.Steps.{Step, Send, Get}
+use Rattle.sd_link.specs.Parts.{sends_in, got_in, ticks_in}
+
+-- What a client makes of a packet while it waits for an answer: whether it matches, and what it sends for it at once.
+pub record Hearing (A : Type 0) : Type 0 where
+  pub match : Packet → Option A
+  pub replies : Packet → List Packet
+
+-- so many packets without a match end a try
+abbrev pub flood_limit : ℕ
+flood_limit = 4096
+
+-- none of these packets matches
+abbrev pub AreUnmatched : {A : Type 0} → (Packet → Option A) → List Packet → Type 0
+AreUnmatched match packets = AllByRecursion (λ packet. match packet ≡ None) packets
+
+-- The part is tries of this request, one after another: each is a send, and then steps in which the client sends only what it
+-- sends for the packets that it gets.
+pub record IsTries (request : Packet) (replies : Packet → List Packet) (rests : List (List Step)) (part : List Step) : Type 0 where
+  pub cut : part ≡ flat_map (λ rest. Send request ∷ rest) rests
+  pub replied : AllByRecursion (λ rest. sends_in rest ≡ flat_map replies (got_in rest)) rests
+
+-- these tries waited so many ticks each, and each got fewer packets than a flood
+pub record AreInVain (wait : ℕ) (rests : List (List Step)) : Type 0 where
+  pub waited : AllByRecursion (λ rest. ticks_in rest ≡ wait) rests
+  pub calm : AllByRecursion (λ rest. length (got_in rest) < flood_limit) rests
+
+-- The client asks nothing but this, at most so often. All tries but the last were in vain, and the last waits no longer
+-- and gets no more packets than a flood.
+pub record Asks (request : Packet) (replies : Packet → List Packet) (tries wait : ℕ) (part : List Step) : Type 0 where
+  pub before : List (List Step)
+  pub last : List Step
+  pub is : IsTries request replies (before ++ last ∷ []) part
+  pub few : length before < tries
+  pub vain : AreInVain wait before
+  pub short : ticks_in last ≤ wait
+  pub most : length (got_in last) ≤ flood_limit
+
+-- the last step gets the first packet that matches, and it gives this
+pub record EndsMatched {A : Type 0} (match : Packet → Option A) (x : A) (part : List Step) : Type 0 where
+  pub before : List Step
+  pub id : ℕ
+  pub packet : Packet
+  pub cut : part ≡ before ++ Get id packet ∷ []
+  pub matched : match packet ≡ Some x
+  pub unmatched : AreUnmatched match (got_in before)
+
+-- the first packet that matches gives this
+pub record Answered {A : Type 0} (request : Packet) (hearing : Hearing A) (tries wait : ℕ) (x : A) (part : List Step) : Type 0 where
+  pub asks : Asks request hearing.replies tries wait part
+  pub ends : EndsMatched hearing.match x part
+
+-- the last try got a flood, and nothing that was got matched
+pub record Flooded {A : Type 0} (request : Packet) (hearing : Hearing A) (tries wait : ℕ) (part : List Step) : Type 0 where
+  pub asks : Asks request hearing.replies tries wait part
+  pub many : length (got_in asks.last) ≡ flood_limit
+  pub unmatched : AreUnmatched hearing.match (got_in part)
+
+-- all tries were made, all in vain, and nothing that was got matched
+pub record TimedOut {A : Type 0} (request : Packet) (hearing : Hearing A) (tries wait : ℕ) (part : List Step) : Type 0 where
+  pub rests : List (List Step)
+  pub is : IsTries request hearing.replies rests part
+  pub all : length rests ≡ tries
+  pub vain : AreInVain wait rests
+  pub unmatched : AreUnmatched hearing.match (got_in part)

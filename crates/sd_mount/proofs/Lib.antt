@@ -1,0 +1,4 @@
+pub mod Kept
+pub mod Mounted
+pub mod Told
+pub mod Read

@@ -1,0 +1,40 @@
+//! What holds of the messages and of the mount list, each on a function that does nothing: the contract is the law.
+
+ghost use Rattle.sd_mount.specs.Laws.{ArgsWrittenAreRead, ArgsOneSpelling, ResultWrittenIsRead, ResultOneSpelling};
+ghost use Rattle.sd_mount.specs.Tables.{SameIsEqual, AddedIsThere, RemovedIsGone};
+
+/// What is written for arguments is read as those, and as no others.
+pub fn args_written_are_read()
+    ensures { ArgsWrittenAreRead }
+{}
+
+/// Arguments that are read have one spelling, which is what is written for them, and are of one procedure.
+pub fn args_one_spelling()
+    ensures { ArgsOneSpelling }
+{}
+
+/// What is written for a result is read as that result, and as no other, by each procedure that may answer it.
+pub fn result_written_is_read()
+    ensures { ResultWrittenIsRead }
+{}
+
+/// A result that is read has one spelling, which is what is written for it.
+pub fn result_one_spelling()
+    ensures { ResultOneSpelling }
+{}
+
+/// Two texts are the same exactly where they are equal.
+pub fn same_is_equal()
+    ensures { SameIsEqual }
+{}
+
+/// A mount that was added is there.
+#[tactic(auto, using(crate::proofs::Mounted::added_is_there))]
+pub fn added_is_there()
+    ensures { AddedIsThere }
+{}
+
+/// A mount that was removed isn't there, and of a machine that left none is.
+pub fn removed_is_gone()
+    ensures { RemovedIsGone }
+{}

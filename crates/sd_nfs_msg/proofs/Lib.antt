@@ -1,0 +1,3 @@
+pub mod Told
+pub mod Spelled
+pub mod Read

@@ -1,0 +1,5 @@
+use Rattle.sd_nfs_msg.proofs.Read.{args_one_spelling_of}
+use Rattle.sd_nfs_msg.proofs.laws.args_one_spelling.Goals as goal
+
+pub returns : goal.returns
+returns c = args_one_spelling_of

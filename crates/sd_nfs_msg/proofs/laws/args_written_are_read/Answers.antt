@@ -1,0 +1,5 @@
+use Rattle.sd_nfs_msg.proofs.Read.{args_written_are_read_of}
+use Rattle.sd_nfs_msg.proofs.laws.args_written_are_read.Goals as goal
+
+pub returns : goal.returns
+returns c = args_written_are_read_of

@@ -1,0 +1,11 @@
+pub mod Handles
+pub mod Children
+pub mod Windows
+pub mod Order
+pub mod Keeping
+pub mod Lines
+pub mod Zeros
+pub mod Storing
+pub mod Replies
+pub mod Components
+pub mod Fitting

@@ -1,0 +1,45 @@
+use Rattle.std.proofs.Common.{◌≡◌, ◌⊎◌, inr, ap, ◌∙◌}
+use Rattle.std.specs.Result.{is_err}
+use Rattle.std.specs.Prelude.{None}
+use Rattle.sd_outside.proofs.MakesLaws.{plan_then}
+use Rattle.sd_stable_disk.specs.Files.{files, may_hold, held_since}
+use Rattle.sd_nfs_server.specs.Acts.{IsFault}
+use Rattle.sd_nfs_server.proofs.Storing.{leaves_then}
+use Rattle.sd_nfs_server.proofs.acts.act_read.Goals as goal
+
+pub returns-in-Ok-read-clause-durable : goal.returns-in-Ok-read-clause-durable
+returns-in-Ok-read-clause-durable g c = λ done left held. c.read.ensures.durable left held ∙ c.rise.ensures.files
+
+pub returns-in-Ok-read-clause-crash : goal.returns-in-Ok-read-clause-crash
+returns-in-Ok-read-clause-crash g c = λ left held. inr (c.read.ensures.durable left held ∙ c.rise.ensures.files)
+
+pub returns-in-Ok-read-clause-moments : goal.returns-in-Ok-read-clause-moments
+returns-in-Ok-read-clause-moments g c =
+    let seen = g.D.Disk.seen in
+    let old = c.args.store.now in
+    leaves_then (λ store. g.D.Disk.moment store.disk) (held_since g.D.Disk.left_since) old c.rise.new.store c.read.new.self
+    (λ left. may_hold g.D.Disk.may_leave old left ⊎ (left ≡ files seen old)) (λ left. left ≡ files seen c.rise.new.store)
+    (λ left same. inr (same ∙ c.rise.ensures.files)) c.rise.ensures.moments c.read.ensures.moments
+
+pub returns-in-Ok-read-clause-plan : goal.returns-in-Ok-read-clause-plan
+returns-in-Ok-read-clause-plan g c =
+    let p = g.D.Disk.plan in
+    plan_then (p c.args.store.now.disk) (p c.rise.new.store.disk) (p c.read.new.self.disk) 5 3 0 1 _ _ (IsFault (record { status = 0; damaged = None }))
+    (λ fault. absurd (cc fault.status)) c.rise.ensures.plan c.read.ensures.plan
+
+pub returns-in-Err-DiskFault-clause-crash : goal.returns-in-Err-DiskFault-clause-crash
+returns-in-Err-DiskFault-clause-crash g c = λ left held. inr (c.read.ensures.durable left held ∙ c.rise.ensures.files)
+
+pub returns-in-Err-DiskFault-clause-moments : goal.returns-in-Err-DiskFault-clause-moments
+returns-in-Err-DiskFault-clause-moments g c =
+    let seen = g.D.Disk.seen in
+    let old = c.args.store.now in
+    leaves_then (λ store. g.D.Disk.moment store.disk) (held_since g.D.Disk.left_since) old c.rise.new.store c.read.new.self
+    (λ left. may_hold g.D.Disk.may_leave old left ⊎ (left ≡ files seen old)) (λ left. left ≡ files seen c.rise.new.store)
+    (λ left same. inr (same ∙ c.rise.ensures.files)) c.rise.ensures.moments c.read.ensures.moments
+
+pub returns-in-Err-DiskFault-clause-plan : goal.returns-in-Err-DiskFault-clause-plan
+returns-in-Err-DiskFault-clause-plan g c =
+    let p = g.D.Disk.plan in
+    plan_then (p c.args.store.now.disk) (p c.rise.new.store.disk) (p c.read.new.self.disk) 5 3 0 1 _ _ (IsFault (record { status = 5; damaged = None }))
+    (λ fault. ap is_err c.in-Err-DiskFault.is) c.rise.ensures.plan c.read.ensures.plan

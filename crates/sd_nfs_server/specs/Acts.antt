@@ -1,0 +1,35 @@
+-- What an act on the store answers.
+use Rattle.std.specs.Prelude.{◌≡◌, ◌⊎◌, ℕ, ◌≤◌, ◌==◌, Bool, Option, Some, None, IsSome}
+use Rattle.sd_outside.specs.Causes.{Rose}
+use Rattle.sd_stable_disk.specs.declared.errors.OpenError.{OpenError}
+use Rattle.sd_stable_disk.specs.declared.errors.OpenError.TheVariants.{DiskFault, NoMemory, Damaged, Version}
+use Rattle.sd_nfs_server.specs.declared.acts.Acted.{Acted}
+
+-- the image is refused at that place; its version stands at place 8
+abbrev pub place_of : OpenError → Option ℕ
+place_of DiskFault = None
+place_of NoMemory = None
+place_of (Damaged at) = Some at
+place_of (Version got) = Some 8
+
+-- a refusal of recovery
+abbrev pub acted_of : OpenError → Acted
+acted_of error = record { status = 5; damaged = place_of error }
+
+abbrev pub is_done : Acted → Bool
+is_done acted = acted.status == 0
+
+-- a call of the disk failed
+pub record IsFault (acted : Acted) : Type 0 where
+  pub status : acted.status ≡ 5
+  pub whole : acted.damaged ≡ None
+
+-- Why an act answers what it does, by the disk's count before and after it.
+pub record HasReason (told : Type 0) (before now : ℕ) (acted : Acted) : Type 0 where
+  pub status : (acted.status ≡ 0) ⊎ (acted.status ≡ 5)
+  pub later : before ≤ now
+  pub done : acted.status ≡ 0 → (now ≡ before) × (acted.damaged ≡ None)
+  -- over a disk that tells what a read gives, 5 comes only with a fault that was counted
+  pub counted : acted.status ≡ 5 → told → (acted.damaged ≡ None) × Rose before now
+  -- over any disk, only with such a fault or a damaged image
+  pub refused : acted.status ≡ 5 → Rose before now ⊎ IsSome acted.damaged

@@ -1,0 +1,7 @@
+pub mod Fits
+pub mod Plan
+pub mod Steps
+pub mod Placing
+pub mod Live
+pub mod Acts
+pub mod Untold

@@ -1,0 +1,13 @@
+pub mod Getting
+pub mod Lasting
+pub mod Settling
+pub mod Listening
+pub mod Tried
+pub mod Trying
+pub mod Rising
+pub mod Still
+pub mod Tallying
+pub mod ShortArgs
+pub mod Known
+pub mod MatchLaws
+pub mod MatchLaw

@@ -1,0 +1,188 @@
+-- What the client knows while it waits for a packet that matches.
+use Rattle.std.proofs.Common.{◌≡◌, inl, inr, ℕ, ◌+◌, ◌<◌, ◌≤◌, List, [], ◌∷◌, ◌++◌, length, Option, Some, None, Result, Ok, Err, refl, sym, ◌∙◌, ap, subst, arith, append_assoc, length-append}
+use Rattle.std.proofs.lemmas.List.{append-nil}
+use Rattle.sd_outside.specs.declared.packet.Packet.{Packet}
+use Rattle.sd_link.specs.Steps.{Step, Send, Get, History}
+use Rattle.sd_link.specs.World.{World}
+use Rattle.sd_link.specs.Parts.{sends_in, got_in}
+use Rattle.sd_link.specs.declared.link.LinkError.{LinkError}
+use Rattle.sd_link.specs.declared.link.LinkError.TheVariants.{Failed, NoMemory}
+use Rattle.sd_link.specs.Link.{GoesOn, Moves, Receives, Sends}
+use Rattle.sd_link.specs.Tries.{Hearing, AreUnmatched, flood_limit}
+use Rattle.sd_link.proofs.Histories.{sends-append, got-append, moves_then, moves_weaker}
+use Rattle.sd_rpc_retry.specs.Lasting.{StaysBefore}
+use Rattle.sd_rpc_retry.specs.Asking.{Looks, Hears, IsReplied}
+use Rattle.sd_rpc_retry.specs.declared.asking.Look.TheVariants.{Match, Reply, Other}
+use Rattle.sd_rpc_retry.specs.declared.asking.Heard.{Heard}
+use Rattle.sd_rpc_retry.specs.declared.asking.Heard.TheVariants as heard
+use Rattle.sd_rpc_retry.proofs.Getting.{stays_then, at_end, replied-append, replied-nothing, unmatched-append, unmatched-nothing}
+use Rattle.sd_rpc_retry.proofs.Settling.{settled-then}
+
+-- so many packets were got, and none matched
+pub record Quiet {S : Type 0} (h : Hearing S) (until count : ℕ) (old : History) (part : List Step) : Type 0 where
+  pub ticks : StaysBefore until old part
+  pub replied : IsReplied h part
+  pub unmatched : AreUnmatched h.match (got_in part)
+  pub counted : length (got_in part) ≡ count
+
+pub quiet_none : {S : Type 0} (h : Hearing S) (until : ℕ) (old : History) → Quiet h until 0 old []
+quiet_none h until old = record { ticks = tt; replied = refl; unmatched = tt; counted = refl }
+
+-- one packet more was got, and isn't looked at yet
+pub record Got {S : Type 0} (h : Hearing S) (until count : ℕ) (packet : Packet) (old : History) (part : List Step) : Type 0 where
+  pub before : List Step
+  pub id : ℕ
+  pub cut : part ≡ before ++ Get id packet ∷ []
+  pub ticks : StaysBefore until old part
+  pub replied : IsReplied h before
+  pub unmatched : AreUnmatched h.match (got_in before)
+  pub counted : length (got_in before) ≡ count
+
+-- a send lets no tick pass
+pub sent_stays : (until : ℕ) (packet : Packet) (result : Result (Unit {0}) LinkError) (old : History) (part : List Step) → Sends packet result old part → StaysBefore until old part
+sent_stays until packet (Ok done) old part is = subst (λ (l : List Step). StaysBefore until old l) (sym is) tt
+sent_stays until packet (Err NoMemory) old part is = subst (λ (l : List Step). StaysBefore until old l) (sym is) tt
+sent_stays until packet (Err Failed) old part (inl is) = subst (λ (l : List Step). StaysBefore until old l) (sym is) tt
+sent_stays until packet (Err Failed) old part (inr is) = subst (λ (l : List Step). StaysBefore until old l) (sym is) tt
+
+silent_front : (xs : List Step) (id : ℕ) (packet : Packet) → sends_in (xs ++ Get id packet ∷ []) ≡ [] → sends_in xs ≡ []
+silent_front xs id packet none = sym (append-nil (sends_in xs)) ∙ sym (sends-append xs (Get id packet ∷ [])) ∙ none
+
+module _ {S : Type 0} (h : Hearing S) (until count : ℕ) (a b : History) (xs ys : List Step) (goes : GoesOn a b xs) (q : Quiet h until count a xs) where
+  pub got_packet : (packet : Packet) → Receives until (Ok (Some packet)) b ys → Got h until count packet a (xs ++ ys)
+  got_packet packet r =
+      let front = r.hands.0 in
+      let id = r.hands.1 in
+      let none : sends_in front ≡ [] = silent_front front id packet (ap sends_in (sym r.hands.2) ∙ r.silent) in
+      record {
+        before = xs ++ front;
+        id = id;
+        cut = ap (λ (l : List Step). xs ++ l) r.hands.2 ∙ sym (append_assoc xs front (Get id packet ∷ []));
+        ticks = stays_then a b xs ys until goes q.ticks r.ticks;
+        replied = replied-append h xs front q.replied (replied-nothing h front none r.hands.3);
+        unmatched = unmatched-append h.match xs front q.unmatched (unmatched-nothing h.match front r.hands.3);
+        counted = ap length (got-append xs front) ∙ ap (λ (l : List Packet). length (got_in xs ++ l)) r.hands.3 ∙ ap length (append-nil (got_in xs)) ∙ q.counted;
+      }
+
+  pub hears_nothing : {T : Type 0} (shows : T → S) → count < flood_limit → Receives until (Ok None) b ys → Hears h shows until heard.Nothing a (xs ++ ys)
+  hears_nothing shows few r =
+      let all = replied-append h xs ys q.replied (replied-nothing h ys r.silent r.hands.0) in
+      let many : length (got_in (xs ++ ys)) ≡ count = ap length (got-append xs ys) ∙ ap (λ (l : List Packet). length (got_in xs ++ l)) r.hands.0 ∙ ap length (append-nil (got_in xs)) ∙ q.counted in
+      record {
+        ticks = stays_then a b xs ys until goes q.ticks r.ticks;
+        found = (
+          all,
+          unmatched-append h.match xs ys q.unmatched (unmatched-nothing h.match ys r.hands.0),
+          subst (λ (w : World). until ≤ w.tick) (at_end a b xs ys goes) r.hands.1,
+          omega (arith, few, many),
+          settled-then a b xs ys goes r.hands.2,
+        );
+      }
+
+  pub fails : (why : LinkError) → Receives until (Err why) b ys → StaysBefore until a (xs ++ ys)
+  fails why r = stays_then a b xs ys until goes q.ticks r.ticks
+
+-- ---- what the packet that was got means
+
+one_got : {S : Type 0} (match : Packet → Option S) (id : ℕ) (packet : Packet) (more : List Step) → got_in more ≡ [] → match packet ≡ None → AreUnmatched match (got_in (Get id packet ∷ more))
+one_got match id packet more none is = subst (λ (l : List Packet). AreUnmatched match (packet ∷ l)) (sym none) (is, tt)
+
+count_one : (before : List Step) (id : ℕ) (packet : Packet) (more : List Step) (count : ℕ) → got_in more ≡ [] → length (got_in before) ≡ count → length (got_in (before ++ Get id packet ∷ more)) ≡ count + 1
+count_one before id packet more count none is =
+    ap length (got-append before (Get id packet ∷ more))
+    ∙ ap (λ (l : List Packet). length (got_in before ++ packet ∷ l)) none
+    ∙ length-append (got_in before) (packet ∷ [])
+    ∙ ap (λ (n : ℕ). n + 1) is
+
+module _ {S : Type 0} (h : Hearing S) (until count : ℕ) (packet : Packet) (a : History) (xs : List Step) (g : Got h until count packet a xs) where
+  -- it is of no interest
+  pub quiet_other : h.match packet ≡ None → h.replies packet ≡ [] → Quiet h until (count + 1) a xs
+  quiet_other unmatched none =
+      let last = Get g.id packet ∷ [] in
+      let replied : IsReplied h last = sym (ap (λ (l : List Packet). l ++ []) none) in
+      record {
+        ticks = g.ticks;
+        replied = subst (IsReplied h) (sym g.cut) (replied-append h g.before last g.replied replied);
+        unmatched = subst (λ (l : List Step). AreUnmatched h.match (got_in l)) (sym g.cut) (unmatched-append h.match g.before last g.unmatched (unmatched, tt));
+        counted = ap (λ (l : List Step). length (got_in l)) g.cut ∙ count_one g.before g.id packet [] count refl g.counted;
+      }
+
+  -- something is sent for it
+  pub quiet_reply : (b : History) (ys : List Step) (sent : Packet) → GoesOn a b xs → h.match packet ≡ None → h.replies packet ≡ sent ∷ [] → Sends sent (Ok tt) b ys → Quiet h until (count + 1) a (xs ++ ys)
+  quiet_reply b ys sent goes unmatched is sends =
+      let last = Get g.id packet ∷ Send sent ∷ [] in
+      let replied : IsReplied h last = sym (ap (λ (l : List Packet). l ++ []) is) in
+      let whole : xs ++ ys ≡ g.before ++ last = ap (λ (l : List Step). l ++ ys) g.cut ∙ ap (λ (l : List Step). (g.before ++ Get g.id packet ∷ []) ++ l) sends ∙ append_assoc g.before (Get g.id packet ∷ []) (Send sent ∷ []) in
+      record {
+        ticks = stays_then a b xs ys until goes g.ticks (sent_stays until sent (Ok tt) b ys sends);
+        replied = subst (IsReplied h) (sym whole) (replied-append h g.before last g.replied replied);
+        unmatched = subst (λ (l : List Step). AreUnmatched h.match (got_in l)) (sym whole) (unmatched-append h.match g.before last g.unmatched (unmatched, tt));
+        counted = ap (λ (l : List Step). length (got_in l)) whole ∙ count_one g.before g.id packet (Send sent ∷ []) count refl g.counted;
+      }
+
+  -- it is the answer
+  pub hears_found : {T : Type 0} (shows : T → S) (x : T) → count < flood_limit → h.match packet ≡ Some (shows x) → h.replies packet ≡ [] → Hears h shows until (heard.Found x) a xs
+  hears_found shows x few is none =
+      let last = Get g.id packet ∷ [] in
+      let replied : IsReplied h last = sym (ap (λ (l : List Packet). l ++ []) none) in
+      let many : length (got_in xs) ≡ count + 1 = ap (λ (l : List Step). length (got_in l)) g.cut ∙ count_one g.before g.id packet [] count refl g.counted in
+      record {
+        ticks = g.ticks;
+        found = (
+          subst (IsReplied h) (sym g.cut) (replied-append h g.before last g.replied replied),
+          record { before = g.before; id = g.id; packet = packet; cut = g.cut; matched = is; unmatched = g.unmatched },
+          omega (arith, many),
+        );
+      }
+
+pub hears_flood : {S T : Type 0} (h : Hearing S) (shows : T → S) (until : ℕ) (old : History) (part : List Step) → Quiet h until flood_limit old part → Hears h shows until heard.Flood old part
+hears_flood h shows until old part q = record { ticks = q.ticks; found = (q.replied, q.unmatched, q.counted) }
+
+pub hears_fault : {S T : Type 0} (h : Hearing S) (shows : T → S) (until : ℕ) (old : History) (part : List Step) → StaysBefore until old part → Hears h shows until heard.Fault old part
+hears_fault h shows until old part ticks = record { ticks = ticks; found = tt }
+
+-- ---- what a link tells
+
+module _ {S : Type 0} (h : Hearing S) (until count : ℕ) (old mid new : Option History) where
+  pub moves_got : (packet : Packet) → Moves old mid (Quiet h until count) → Moves mid new (Receives until (Ok (Some packet))) → Moves old new (Got h until count packet)
+  moves_got packet first second =
+      moves_then old mid new (Quiet h until count) (Receives until (Ok (Some packet))) (Got h until count packet)
+      (λ a b xs ys goes q r. got_packet h until count a b xs ys goes q packet r) first second
+
+  pub moves_nothing : {T : Type 0} (shows : T → S) → count < flood_limit → Moves old mid (Quiet h until count) → Moves mid new (Receives until (Ok None)) → Moves old new (Hears h shows until heard.Nothing)
+  moves_nothing shows few first second =
+      moves_then old mid new (Quiet h until count) (Receives until (Ok None)) (Hears h shows until heard.Nothing)
+      (λ a b xs ys goes q r. hears_nothing h until count a b xs ys goes q shows few r) first second
+
+  pub moves_failed : (why : LinkError) → Moves old mid (Quiet h until count) → Moves mid new (Receives until (Err why)) → Moves old new (StaysBefore until)
+  moves_failed why first second =
+      moves_then old mid new (Quiet h until count) (Receives until (Err why)) (StaysBefore until)
+      (λ a b xs ys goes q r. fails h until count a b xs ys goes q why r) first second
+
+  -- a packet was looked at
+  pub moves_reply : {T : Type 0} (shows : T → S) (packet sent : Packet) → Looks h shows packet (Reply sent) → Moves old mid (Got h until count packet) → Moves mid new (Sends sent (Ok tt)) → Moves old new (Quiet h until (count + 1))
+  moves_reply shows packet sent looks first second =
+      moves_then old mid new (Got h until count packet) (Sends sent (Ok tt)) (Quiet h until (count + 1))
+      (λ a b xs ys goes g s. quiet_reply h until count packet a xs g b ys sent goes looks.0 looks.1 s) first second
+
+  pub moves_unsent : (packet sent : Packet) (why : LinkError) → Moves old mid (Got h until count packet) → Moves mid new (Sends sent (Err why)) → Moves old new (StaysBefore until)
+  moves_unsent packet sent why first second =
+      moves_then old mid new (Got h until count packet) (Sends sent (Err why)) (StaysBefore until)
+      (λ a b xs ys goes g s. stays_then a b xs ys until goes g.ticks (sent_stays until sent (Err why) b ys s)) first second
+
+module _ {S T : Type 0} (h : Hearing S) (shows : T → S) (until : ℕ) (old new : Option History) where
+  pub moves_other : (count : ℕ) (packet : Packet) → Looks h shows packet Other → Moves old new (Got h until count packet) → Moves old new (Quiet h until (count + 1))
+  moves_other count packet looks m = moves_weaker old new (Got h until count packet) (Quiet h until (count + 1)) (λ a xs g. quiet_other h until count packet a xs g looks.0 looks.1) m
+
+  pub moves_found : (count : ℕ) (packet : Packet) (x : T) → count < flood_limit → Looks h shows packet (Match x) → Moves old new (Got h until count packet) → Moves old new (Hears h shows until (heard.Found x))
+  moves_found count packet x few looks m =
+      moves_weaker old new (Got h until count packet) (Hears h shows until (heard.Found x)) (λ a xs g. hears_found h until count packet a xs g shows x few looks.0 looks.1) m
+
+  pub moves_fault : Moves old new (StaysBefore until) → Moves old new (Hears h shows until heard.Fault)
+  moves_fault m = moves_weaker old new (StaysBefore until) (Hears h shows until heard.Fault) (λ a xs s. hears_fault h shows until a xs s) m
+
+  pub moves_flood : Moves old new (Quiet h until flood_limit) → Moves old new (Hears h shows until heard.Flood)
+  moves_flood m = moves_weaker old new (Quiet h until flood_limit) (Hears h shows until heard.Flood) (λ a xs q. hears_flood h shows until a xs q) m
+
+  pub moves_stays : (what : Heard T) → Moves old new (Hears h shows until what) → Moves old new (StaysBefore until)
+  moves_stays what m = moves_weaker old new (Hears h shows until what) (StaysBefore until) (λ a xs e. e.ticks) m

@@ -1,0 +1,188 @@
+//! Calls of procedures on other machines, and their answers.
+ghost use Rattle.std.specs.Prelude.{◌≡◌, ◌<◌, ◌≤◌, ◌+◌, ◌*◌, ◌-◌, ◌^◌, length, IfOk, Err};
+ghost use Rattle.sd_outside.specs.Causes.{Rose};
+ghost use Rattle.sd_link.specs.Link.{Moves};
+ghost use Rattle.sd_rpc_retry.specs.declared.calling.CallError.TheVariants as error;
+ghost use Rattle.sd_rpc_retry.specs.Lasting.{Lasts, most_asking_ticks};
+ghost use Rattle.sd_rpc_retry.specs.Asking.{IsAskedFault};
+ghost use Rattle.sd_rpc_retry.specs.Sending.{HandedFor, WaitedFor};
+ghost use Rattle.sd_rpc_retry.specs.Calling.{AskFits};
+ghost use Rattle.sd_rpc_retry.specs.Calls.{asked_as, tally_of, CameOf, WasSent, IsTold};
+
+use crate::asking::{Asked, Tally, ask_counting};
+use crate::reply::ReplyListener;
+use sd_link::Link;
+use sd_outside::{Addr, ByteList, NoMemory};
+use std::alloc::Global;
+
+/// What is asked of another machine.
+#[derive(Debug, Drop)]
+pub enum Ask {
+    /// The port at which a program's version is reached by UDP (RFC 1057, appendix A).
+    Getport { prog: u32, vers: u32 },
+    /// What the machine with this address is called (bootparams).
+    Whoami { ip: u32 },
+    /// Where a client, whose name has at most 255 bytes, finds the file that a key of at most 32 bytes stands for (bootparams).
+    Getfile { client: ByteList, key: ByteList },
+}
+
+/// What was answered.
+#[derive(Debug, Drop)]
+pub enum Answer {
+    /// The port, or 0 where the program isn't there.
+    Port(u16),
+    /// The machine's name and domain and the address of its router, with the address of who replied.
+    Whoami {
+        from: u32,
+        client: ByteList,
+        domain: ByteList,
+        router: u32,
+    },
+    /// A server's name and address, and the path there, with the address of who replied.
+    Getfile {
+        from: u32,
+        server: ByteList,
+        ip: u32,
+        path: ByteList,
+    },
+}
+
+/// Why there is no answer.
+#[derive(Clone, Copy, Debug, PartialEq, Eq)]
+pub enum CallError {
+    /// All tries waited in vain.
+    Timeout,
+    /// So many packets came in one try that the call ended.
+    Flood,
+    /// The call was refused: 1 to 4 are the accept states of RFC 1057, section 8, 10 is RPC_MISMATCH, and 11 to 15 are AUTH_ERROR
+    /// with the auth states 1 to 5.
+    Denied { code: u32 },
+    /// The link failed.
+    LinkFault,
+    /// Want of memory.
+    NoMemory,
+}
+
+/// What came of a call.
+#[derive(Debug, Drop)]
+pub struct Called {
+    /// What was answered.
+    pub answer: Result<Answer, CallError>,
+    /// How many sends were tried. One that the link refused counts too.
+    pub sends: u32,
+    /// The tick before the last of them, or 0 where there was none.
+    pub last: u64,
+}
+
+/// Who calls.
+#[derive(Debug, Drop)]
+pub struct Caller {
+    /// Its address, and the port to which replies go.
+    pub ip: u32,
+    pub port: u16,
+    /// The name of its machine, of at most 255 bytes.
+    pub machine: ByteList,
+    /// The number of the next call.
+    pub next_xid: u32,
+    /// How often a call is sent before the caller gives up: 1 to 64.
+    pub tries: u32,
+    /// How many ticks it waits for the answer to each: 1 to 1,000.
+    pub wait: u64,
+}
+
+/// The answer that came of asking.
+fn answer_of(asked: Result<Asked<Result<Answer, u32>>, NoMemory>) -> Result<Answer, CallError>
+    ensures { asked_as result ≡ asked }
+{
+    match asked {
+        Ok(Asked::Answer(Ok(answer))) => Ok(answer),
+        Ok(Asked::Answer(Err(code))) => Err(CallError::Denied { code }),
+        Ok(Asked::Timeout) => Err(CallError::Timeout),
+        Ok(Asked::Flood) => Err(CallError::Flood),
+        Ok(Asked::Fault) => Err(CallError::LinkFault),
+        Err(NoMemory) => Err(CallError::NoMemory),
+    }
+}
+
+impl Caller {
+    /// Sends the call that is next, and waits for its reply.
+    fn send_call<L: Link>(
+        &self,
+        alloc: Global,
+        link: &mut L,
+        dst: Addr,
+        asked: &Ask,
+        tally: &mut Tally,
+    ) -> Result<Asked<Result<Answer, u32>>, NoMemory>
+        requires tries { self.now.tries ≤ 64 }
+        requires wait { self.now.wait ≤ 1000 }
+        requires fits { AskFits asked.now }
+        ensures told { IfOk result (λ came. Moves (L.told link.old) (L.told link.new) (CameOf self.now dst asked.now came)) }
+        ensures tallied { Moves (L.told link.old) (L.told link.new) (WasSent self.now dst asked.now tally.new result) }
+        ensures found { IfOk result (IsTold self.now dst asked.now) }
+        ensures most { tally.new.sends ≤ self.now.tries }
+        ensures began { 0 < tally.new.sends → L.clock link.old ≤ tally.new.last }
+        ensures ended { 0 < tally.new.sends → tally.new.last ≤ L.clock link.new }
+        ensures handed { IfOk result (λ came. HandedFor came (L.handed link.old) (L.handed link.new)) }
+        ensures waited { IfOk result (λ came. WaitedFor (self.now.tries * self.now.wait) came (L.clock link.old) (L.clock link.new)) }
+        ensures counts { L.handed link.old ≤ L.handed link.new }
+        ensures later { L.clock link.old ≤ L.clock link.new }
+        ensures lasts { Lasts most_asking_ticks (L.told link.old) (L.told link.new) }
+        ensures fault { IfOk result (λ came. IsAskedFault came → Rose (L.faults link.old) (L.faults link.new)) }
+        ensures faults { L.faults link.old ≤ L.faults link.new }
+        ensures drained { L.drained link.new ≡ L.drained link.old }
+    {
+        *tally = Tally { sends: 0, last: 0 };
+        let request = self.request(alloc, dst, asked)?;
+        let mut listener = ReplyListener {
+            alloc,
+            me: self.home(),
+            xid: self.next_xid,
+            dst,
+            asked,
+        };
+        ask_counting(link, &request, &mut listener, self.tries, self.wait, tally)
+    }
+
+    /// Calls a procedure there, and takes the first reply that tells something. Each call takes one number, also where memory is
+    /// wanting.
+    ///
+    /// A reply goes to the caller's address and port, has the number of the call, comes from `dst`, or from port 111 of any
+    /// machine where `dst` is 255.255.255.255, and its results are those of the procedure. What is asked of bootparams is
+    /// relayed by a portmapper where `dst` is its port or a broadcast.
+    pub fn call<L: Link>(&mut self, alloc: Global, link: &mut L, dst: Addr, ask: &Ask) -> Called
+        requires xid { self.old.next_xid < 2 ^ 32 - 1 }
+        requires tries { self.old.tries ≤ 64 }
+        requires wait { self.old.wait ≤ 1000 }
+        requires machine { length self.old.machine ≤ 255 }
+        requires fits { AskFits ask.now }
+        ensures xid { self.new ≡ record self.old { next_xid = self.old.next_xid + 1 } }
+        // Over a link that tells, this came of the call: all tries in vain, a flood in one, or what the first match tells.
+        ensures told { IfOk (asked_as result.answer) (λ came. Moves (L.told link.old) (L.told link.new) (CameOf self.old dst ask.now came)) }
+        // It was sent so often, at once and then every `wait` ticks, whatever came of it.
+        ensures tallied { Moves (L.told link.old) (L.told link.new) (WasSent self.old dst ask.now (tally_of result) (asked_as result.answer)) }
+        ensures most { result.sends ≤ self.old.tries }
+        // Over every link an answer and a refusal are what some packet tells.
+        ensures found { IfOk (asked_as result.answer) (IsTold self.old dst ask.now) }
+        // They need a packet, a flood its packets, and a timeout the whole time.
+        ensures handed { IfOk (asked_as result.answer) (λ came. HandedFor came (L.handed link.old) (L.handed link.new)) }
+        ensures waited { IfOk (asked_as result.answer) (λ came. WaitedFor (self.old.tries * self.old.wait) came (L.clock link.old) (L.clock link.new)) }
+        ensures began { 0 < result.sends → L.clock link.old ≤ result.last }
+        ensures ended { 0 < result.sends → result.last ≤ L.clock link.new }
+        ensures counts { L.handed link.old ≤ L.handed link.new }
+        ensures later { L.clock link.old ≤ L.clock link.new }
+        ensures lasts { Lasts most_asking_ticks (L.told link.old) (L.told link.new) }
+        ensures fault { result.answer ≡ Err error.LinkFault → Rose (L.faults link.old) (L.faults link.new) }
+        ensures faults { L.faults link.old ≤ L.faults link.new }
+        ensures drained { L.drained link.new ≡ L.drained link.old }
+    {
+        let mut tally = Tally { sends: 0, last: 0 };
+        let asked = self.send_call(alloc, link, dst, ask, &mut tally);
+        self.next_xid += 1;
+        Called {
+            answer: answer_of(asked),
+            sends: tally.sends,
+            last: tally.last,
+        }
+    }
+}

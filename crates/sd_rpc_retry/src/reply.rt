@@ -1,0 +1,241 @@
+//! What datagrams tell a caller.
+ghost use Rattle.std.specs.Prelude.{◌≡◌, ◌≤◌, ◌&&◌, IfOk, IfSome, Option, Result, Ok, Err};
+ghost use Rattle.std.specs.Option.{option_map};
+ghost use Rattle.sd_xdr.specs.Kind.{bytes};
+ghost use Rattle.sd_rpc_msg.specs.Layout.{message, message_value, outcome_value};
+ghost use Rattle.sd_rpc_msg.specs.Laws.{IsMessage, IsOutcome};
+ghost use Rattle.sd_portmap.specs.Layout as portmap;
+ghost use Rattle.sd_bootparams.specs.Layout as bootparams;
+ghost use Rattle.sd_rpc_retry.specs.Calling.{spelled, port_in, whoami_in, getfile_in, reply_says, message_says, and_then, verdict_of, answer_in, bootparams_says, comes_from, is_at};
+ghost use Rattle.sd_rpc_retry.specs.Reading.{IsKnown};
+
+use crate::asking::{Listener, Look};
+use crate::calling::{Answer, Ask};
+use crate::request::{PMAP_PORT, is_everyone, is_relayed};
+use sd_bootparams::{BpResult, read_bp_result};
+use sd_outside::{Addr, ByteList, NoMemory, Packet};
+use sd_portmap::{PmapResult, read_pmap_result};
+use sd_rpc_msg::{Message, MsgError, Outcome, read_message};
+use std::alloc::Global;
+
+/// What was read, or nothing where the bytes spell nothing.
+fn known<T: Drop>(read: Result<T, MsgError>) -> Result<Option<T>, NoMemory>
+    ensures { IfOk result (IsKnown read) }
+{
+    match read {
+        Ok(value) => Ok(Some(value)),
+        Err(MsgError::NoMemory) => Err(NoMemory),
+        Err(MsgError::Xdr(_)) => Ok(None),
+        Err(MsgError::RpcVersion { .. }) => Ok(None),
+        Err(MsgError::AuthLong { .. }) => Ok(None),
+    }
+}
+
+/// The message that the bytes spell.
+fn message_in(alloc: Global, bytes: &[u8]) -> Result<Option<Message>, NoMemory>
+    ensures value { IfOk result (λ found. option_map message_value found ≡ spelled message bytes.now) }
+    ensures rules { IfOk result (λ found. IfSome found IsMessage) }
+{
+    known(read_message(alloc, bytes))
+}
+
+/// The result of a procedure of the portmapper that the bytes spell.
+fn pmap_result_in(alloc: Global, proc_no: u32, bytes: &[u8]) -> Result<Option<PmapResult>, NoMemory>
+    requires { proc_no ≤ 5 }
+    ensures value { IfOk result (λ found. option_map portmap.result_value found ≡ spelled (portmap.result_kind proc_no) bytes.now) }
+    ensures of_proc { IfOk result (λ found. IfSome found (portmap.IsResultOf proc_no)) }
+    ensures port { IfOk result (λ found. IfSome found portmap.PortFits) }
+{
+    known(read_pmap_result(alloc, proc_no, bytes))
+}
+
+/// The result of a procedure of bootparams that the bytes spell.
+fn bp_result_in(alloc: Global, proc_no: u32, bytes: &[u8]) -> Result<Option<BpResult>, NoMemory>
+    requires { proc_no ≤ 2 }
+    ensures value { IfOk result (λ found. option_map bootparams.result_value found ≡ spelled (bootparams.result_kind proc_no) bytes.now) }
+    ensures of_proc { IfOk result (λ found. IfSome found (λ r. bootparams.result_proc r ≡ proc_no)) }
+{
+    known(read_bp_result(alloc, proc_no, bytes))
+}
+
+/// The result of a procedure of bootparams that these results spell, in those of PMAPPROC_CALLIT where a portmapper relays it.
+fn bootparams_result_in(
+    alloc: Global,
+    proc_no: u32,
+    relayed: bool,
+    results: &[u8],
+) -> Result<Option<BpResult>, NoMemory>
+    requires { proc_no ≤ 2 }
+    ensures value { IfOk result (λ found. option_map bootparams.result_value found ≡ bootparams_says proc_no relayed results.now) }
+    ensures of_proc { IfOk result (λ found. IfSome found (λ r. bootparams.result_proc r ≡ proc_no)) }
+{
+    if !relayed {
+        return bp_result_in(alloc, proc_no, results);
+    }
+    match pmap_result_in(alloc, 5, results)? {
+        Some(PmapResult::Callit { results, .. }) => bp_result_in(
+            alloc,
+            proc_no,
+            results.as_slice(),
+        ),
+        _ => Ok(None),
+    }
+}
+
+/// What a reply says: the results, or by which number the call was refused.
+fn said_by(outcome: Outcome) -> Result<ByteList, u32>
+    requires { IsOutcome outcome }
+    ensures { result ≡ reply_says (outcome_value outcome) }
+{
+    match outcome {
+        Outcome::Success { results, .. } => Ok(results),
+        Outcome::ProgUnavail { .. } => Err(1),
+        Outcome::ProgMismatch { .. } => Err(2),
+        Outcome::ProcUnavail { .. } => Err(3),
+        Outcome::GarbageArgs { .. } => Err(4),
+        Outcome::RpcMismatch { .. } => Err(10),
+        Outcome::AuthError { stat } => Err(10 + stat),
+    }
+}
+
+/// The port in a result of PMAPPROC_GETPORT.
+fn port_in(alloc: Global, results: &[u8]) -> Result<Option<Answer>, NoMemory>
+    ensures { IfOk result (λ found. found ≡ port_in (spelled (portmap.result_kind 3) results.now)) }
+{
+    match pmap_result_in(alloc, 3, results)? {
+        Some(PmapResult::Port(port)) => Ok(Some(Answer::Port(port as u16))),
+        _ => Ok(None),
+    }
+}
+
+/// What a result of BOOTPARAMPROC_WHOAMI tells.
+fn whoami_in(
+    alloc: Global,
+    from: u32,
+    relayed: bool,
+    results: &[u8],
+) -> Result<Option<Answer>, NoMemory>
+    ensures { IfOk result (λ found. found ≡ option_map (whoami_in from) (bootparams_says 1 relayed results.now)) }
+{
+    match bootparams_result_in(alloc, 1, relayed, results)? {
+        Some(
+            BpResult::Whoami {
+                client,
+                domain,
+                router,
+            },
+        ) => Ok(Some(Answer::Whoami {
+            from,
+            client,
+            domain,
+            router,
+        })),
+        _ => Ok(None),
+    }
+}
+
+/// What a result of BOOTPARAMPROC_GETFILE tells.
+fn getfile_in(
+    alloc: Global,
+    from: u32,
+    relayed: bool,
+    results: &[u8],
+) -> Result<Option<Answer>, NoMemory>
+    ensures { IfOk result (λ found. found ≡ option_map (getfile_in from) (bootparams_says 2 relayed results.now)) }
+{
+    match bootparams_result_in(alloc, 2, relayed, results)? {
+        Some(BpResult::Getfile { server, ip, path }) => Ok(Some(Answer::Getfile {
+            from,
+            server,
+            ip,
+            path,
+        })),
+        _ => Ok(None),
+    }
+}
+
+/// Who waits for the reply to a call.
+#[derive(Drop)]
+pub(crate) struct ReplyListener<'a> {
+    pub alloc: Global,
+    /// Where the caller is.
+    pub me: Addr,
+    /// The number of the call.
+    pub xid: u32,
+    /// Where the call went.
+    pub dst: Addr,
+    /// What was asked.
+    pub asked: &'a Ask,
+}
+
+impl Listener for ReplyListener<'_> {
+    ghost use Rattle.sd_rpc_retry.specs.Calling.{Verdict, reply_hearing};
+
+    type Found = Result<Answer, u32>;
+
+    ghost Seen = { Verdict };
+
+    ghost hearing = { λ listener. reply_hearing listener.me listener.xid listener.dst listener.asked.now };
+
+    ghost shows = { λ listener found. found };
+
+    fn look(&mut self, packet: &Packet) -> Result<Look<Result<Answer, u32>>, NoMemory> {
+        let Packet::Udp { src, dst, body } = packet else {
+            return Ok(Look::Other);
+        };
+        if !self.is_addressed(*src, *dst) {
+            return Ok(Look::Other);
+        }
+        match self.verdict(src.ip, body.as_slice())? {
+            Some(verdict) => Ok(Look::Match(verdict)),
+            None => Ok(Look::Other),
+        }
+    }
+}
+
+impl ReplyListener<'_> {
+    /// Whether a datagram goes to the caller, and comes from where the call went. To a broadcast the portmapper of any machine
+    /// may reply.
+    fn is_addressed(&self, src: Addr, dst: Addr) -> bool
+        ensures { result ≡ (is_at self.now.me dst && comes_from self.now.dst src) }
+    {
+        if dst.ip != self.me.ip || dst.port != self.me.port {
+            return false;
+        }
+        if is_everyone(self.dst) {
+            return src.port == PMAP_PORT;
+        }
+        src.ip == self.dst.ip && src.port == self.dst.port
+    }
+
+    /// What results from this address tell.
+    fn answer(&self, from: u32, results: &[u8]) -> Result<Option<Answer>, NoMemory>
+        ensures { IfOk result (λ found. found ≡ answer_in self.now.asked.now self.now.dst from results.now) }
+    {
+        match self.asked {
+            Ask::Getport { .. } => port_in(self.alloc, results),
+            Ask::Whoami { .. } => whoami_in(self.alloc, from, is_relayed(self.dst), results),
+            Ask::Getfile { .. } => getfile_in(self.alloc, from, is_relayed(self.dst), results),
+        }
+    }
+
+    /// What a datagram's body from this address tells.
+    fn verdict(&self, from: u32, body: &[u8]) -> Result<Option<Result<Answer, u32>>, NoMemory>
+        ensures { IfOk result (λ found. found ≡ and_then (and_then (spelled message body.now) (message_says self.now.xid)) (verdict_of self.now.asked.now self.now.dst from)) }
+    {
+        let reply = match message_in(self.alloc, body)? {
+            Some(Message::Answered(reply)) => reply,
+            _ => return Ok(None),
+        };
+        if reply.xid != self.xid {
+            return Ok(None);
+        }
+        match said_by(reply.outcome) {
+            Ok(results) => match self.answer(from, results.as_slice())? {
+                Some(answer) => Ok(Some(Ok(answer))),
+                None => Ok(None),
+            },
+            Err(code) => Ok(Some(Err(code))),
+        }
+    }
+}
