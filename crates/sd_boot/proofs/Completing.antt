@@ -1,5 +1,5 @@
 -- In a calm script each command is ok.
-use Rattle.std.proofs.Common.{◌≡◌, ℕ, ◌*◌, ◌==◌, ◌≤◌, Bool, true, false, cond, List, [], ◌∷◌, ◌++◌, length, Option, Some, None, refl, sym, ◌∙◌, ap, subst, arith, append_assoc, length-append}
+use Rattle.std.proofs.Common.{◌≡◌, ℕ, ◌*◌, ◌==◌, ◌≤◌, Bool, true, false, cond, List, [], ◌∷◌, ◌++◌, length, Some, None, refl, sym, ◌∙◌, ap, subst, arith, append_assoc, length-append}
 use Rattle.std.proofs.lemmas.List.{append-nil}
 use Rattle.std.specs.Prelude.{◌≢◌}
 use Rattle.std.specs.List.{flat_map, AllByRecursion}
@@ -18,10 +18,11 @@ use Rattle.sd_script.specs.declared.script.Script.{Script}
 use Rattle.sd_script.specs.declared.script.Command.{Command}
 use Rattle.sd_script.specs.declared.script.Command.TheVariants.{Addr, Boot, Wait}
 use Rattle.sd_script.specs.declared.told.Told.{Told}
-use Rattle.sd_script.specs.declared.told.Told.TheVariants.{AddrOk, AddrTimeout, AddrFlood, AddrLinkFault, BootUnbuilt, BootTimeout, BootFlood, BootRefused, BootTooLarge, BootLinkFault, WaitOk, WaitFlood, WaitLinkFault}
-use Rattle.sd_link.specs.Tries.{Answered, Flooded, TimedOut, AreUnmatched, IsTries}
-use Rattle.sd_claims.specs.Rarp.{Learned, rarp_request, rarp_hearing, learned_from}
-use Rattle.sd_claims.specs.Causes.{IsCaused, IsAddrCaused, IsWaitCaused, boots_after}
+use Rattle.sd_script.specs.declared.told.Told.TheVariants.{AddrOk, AddrTimeout, AddrFlood, AddrLinkFault, BootUnbuilt, BootTimeout, BootFlood, BootDenied, BootRefused, BootNoPort, BootTooLarge, BootLinkFault, WaitOk, WaitFlood, WaitLinkFault}
+use Rattle.sd_link.specs.Tries.{AreUnmatched}
+use Rattle.sd_claims.specs.Rarp.{Learned, rarp_hearing, learned_from}
+use Rattle.sd_claims.specs.Booting.{Counts, first_counts}
+use Rattle.sd_claims.specs.Causes.{IsCaused, IsAddrCaused, IsWaitCaused, counts_after}
 use Rattle.sd_claims.specs.Transcript.{Done, AllCaused}
 use Rattle.sd_claims.specs.Ending.{Ends, AllEnd}
 use Rattle.sd_claims.specs.Session.{parts_of}
@@ -200,12 +201,17 @@ module _ (c : Config) (is : IsConfig c) where
     addr_next (AddrFlood stage.Rarp) caused ended = absurd (no_flood caused ended)
     addr_next (AddrFlood stage.Tftp) caused ended = absurd caused
     addr_next (AddrFlood stage.Whoami) caused ended = absurd caused
+    addr_next (AddrFlood stage.Getfile) caused ended = absurd caused
+    addr_next (AddrFlood stage.Getport) caused ended = absurd caused
+    addr_next (AddrFlood stage.Mnt) caused ended = absurd caused
     addr_next (AddrFlood stage.Wait) caused ended = absurd caused
     addr_next AddrLinkFault caused ended = absurd caused
     addr_next (BootUnbuilt step program) caused ended = absurd caused
     addr_next (BootTimeout step) caused ended = absurd caused
     addr_next (BootFlood step) caused ended = absurd caused
+    addr_next (BootDenied step code) caused ended = absurd caused
     addr_next (BootRefused step code) caused ended = absurd caused
+    addr_next BootNoPort caused ended = absurd caused
     addr_next (BootTooLarge size) caused ended = absurd caused
     addr_next BootLinkFault caused ended = absurd caused
     addr_next (WaitOk shown) caused ended = absurd caused
@@ -223,33 +229,35 @@ module _ (c : Config) (is : IsConfig c) where
     wait_next ticks (BootUnbuilt step program) caused ended = absurd caused
     wait_next ticks (BootTimeout step) caused ended = absurd caused
     wait_next ticks (BootFlood step) caused ended = absurd caused
+    wait_next ticks (BootDenied step code) caused ended = absurd caused
     wait_next ticks (BootRefused step code) caused ended = absurd caused
+    wait_next ticks BootNoPort caused ended = absurd caused
     wait_next ticks (BootTooLarge size) caused ended = absurd caused
     wait_next ticks BootLinkFault caused ended = absurd caused
 
-    next : (boots : ℕ) (command : Command) (answer : Told) → command ≢ Boot → IsCaused c boots command answer part → Ends c plain w entries answer part → Next w entries (record { part = part; answer = answer })
-    next boots Addr answer other caused ended = addr_next answer caused ended
-    next boots Boot answer other caused ended = absurd (other refl)
-    next boots (Wait ticks) answer other caused ended = wait_next ticks answer caused ended
+    next : (n : Counts) (command : Command) (answer : Told) → command ≢ Boot → IsCaused c n command answer part → Ends c plain w entries answer part → Next w entries (record { part = part; answer = answer })
+    next n Addr answer other caused ended = addr_next answer caused ended
+    next n Boot answer other caused ended = absurd (other refl)
+    next n (Wait ticks) answer other caused ended = wait_next ticks answer caused ended
 
   -- ---- all commands
 
-  all_ok : 2 ≤ c.tries * c.wait → (w : World) (entries : List Entry) (s : Stages) (boots : ℕ) (commands : List Command) (done : List Done) → AllByRecursion (λ command. command ≢ Boot) commands → Stands c is w entries s → Rests s → AllGot c plain w entries
-      → AllAllowed c w (parts_of done) → AllInTurn c plain w entries (parts_of done) → AllCaused c boots commands done → AllEnd c plain w entries done → AllByRecursion (λ d. IsOk d.answer) done
-  all_ok patient w entries s boots commands [] others at rests settled allowed turns caused ended = tt
-  all_ok patient w entries s boots [] (d ∷ ds) others at rests settled allowed turns caused ended = absurd caused
-  all_ok patient w entries s boots (k ∷ ks) (d ∷ ds) others at rests settled allowed turns caused ended =
+  all_ok : 2 ≤ c.tries * c.wait → (w : World) (entries : List Entry) (s : Stages) (m : Counts) (commands : List Command) (done : List Done) → AllByRecursion (λ command. command ≢ Boot) commands → Stands c is w entries s → Rests s → AllGot c plain w entries
+      → AllAllowed c w (parts_of done) → AllInTurn c plain w entries (parts_of done) → AllCaused c m commands done → AllEnd c plain w entries done → AllByRecursion (λ d. IsOk d.answer) done
+  all_ok patient w entries s m commands [] others at rests settled allowed turns caused ended = tt
+  all_ok patient w entries s m [] (d ∷ ds) others at rests settled allowed turns caused ended = absurd caused
+  all_ok patient w entries s m (k ∷ ks) (d ∷ ds) others at rests settled allowed turns caused ended =
       let a = allowed-split c w d.part (parts_of ds) allowed in
       let t = in_turn-split c plain w entries d.part (parts_of ds) turns in
-      let n = next patient w entries s d.part at rests settled a.0 t.0 boots k d.answer others.0 caused.0 ended.0 in
-      (n.ok, all_ok patient (run c w d.part) (entries ++ record_of c w d.part) n.t (boots_after boots d.answer) ks ds others.1 n.stands n.rests n.settled a.1 t.1 caused.1 ended.1)
+      let n = next patient w entries s d.part at rests settled a.0 t.0 m k d.answer others.0 caused.0 ended.0 in
+      (n.ok, all_ok patient (run c w d.part) (entries ++ record_of c w d.part) n.t (counts_after m d.answer) ks ds others.1 n.stands n.rests n.settled a.1 t.1 caused.1 ended.1)
 
 -- all answers of a calm script are ok
-pub complete : (s : Script) → IsConfig s.config → (commands : List Command) (done : List Done) → IsLawful s.config (fates_of s.events) (parts_of done) → AllCaused s.config 0 commands done
+pub complete : (s : Script) → IsConfig s.config → (commands : List Command) (done : List Done) → IsLawful s.config (fates_of s.events) (parts_of done) → AllCaused s.config first_counts commands done
     → AllEnd s.config (fates_of s.events) (start s.config) [] done → AllByRecursion (λ command. command ≢ Boot) commands → IsCalm s → AllByRecursion (λ d. IsOk d.answer) done
 complete s is commands done law caused ended others calm =
     let c = s.config in
-    all_ok c is calm.patient (start c) [] (record { sent = 0; asked = 0; replied = 0; waiting = 0 }) 0 commands done others (stands_start c is)
+    all_ok c is calm.patient (start c) [] (record { sent = 0; asked = 0; replied = 0; waiting = 0 }) first_counts commands done others (stands_start c is)
     (record { none_sent = refl; few = omega arith; none_waits = refl }) refl law.allowed
     (subst (λ (l : List Fate). AllInTurn c (fate_in l) (start c) [] (parts_of done)) calm.plain law.in_turn) caused
     (subst (λ (l : List Fate). AllEnd c (fate_in l) (start c) [] done) calm.plain ended)

@@ -17,7 +17,7 @@ use Rattle.sd_link.proofs.Histories.{world-goes, tick-run}
 use Rattle.sd_script.specs.declared.script.Script.{Script}
 use Rattle.sd_script.specs.declared.script.Command.{Command}
 use Rattle.sd_script.specs.declared.script.Command.TheVariants.{Boot}
-use Rattle.sd_claims.specs.Machine.{first_state}
+use Rattle.sd_claims.specs.Booting.{first_counts}
 use Rattle.sd_claims.specs.Transcript.{Done, AllCaused}
 use Rattle.sd_claims.specs.Ending.{AllEnd}
 use Rattle.sd_claims.specs.Session.{parts_of, IsSession, IsCutSession}
@@ -63,7 +63,7 @@ all_taken P (suc count) [] all = tt
 all_taken P (suc count) (x ∷ xs) all = (all.0, all_taken P count xs all.1)
 
 -- commands that were done over a lawful history, each with its cause and ending as it says, are done as the script owes
-done_so : (s : Script) → IsConfig s.config → (commands : List Command) (done : List Done) → IsLawful s.config (fates_of s.events) (parts_of done) → AllCaused s.config 0 commands done
+done_so : (s : Script) → IsConfig s.config → (commands : List Command) (done : List Done) → IsLawful s.config (fates_of s.events) (parts_of done) → AllCaused s.config first_counts commands done
     → AllEnd s.config (fates_of s.events) (start s.config) [] done → (IsCalm s → AllByRecursion (λ command. command ≢ Boot) commands) → AreDone s commands done
 done_so s is commands done law caused ended others = record {
   lawful = law;

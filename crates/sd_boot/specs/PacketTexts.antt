@@ -12,7 +12,8 @@ use Rattle.sd_script.specs.Packets.{IsPacketLine}
 use Rattle.sd_show.specs.declared.error.Word.{Word}
 use Rattle.sd_show.specs.declared.error.ShowError.{ShowError}
 use Rattle.sd_show.specs.declared.error.ShowError.TheVariants as errors
-use Rattle.sd_show.specs.Shown.{Shows, Packs}
+use Rattle.sd_show.specs.declared.calls.Heard.{Heard}
+use Rattle.sd_show.specs.Shown.{Shows, Hears, Packs}
 use Rattle.sd_show.specs.Refused.{word_text, not_a_line, HasNoText}
 use Rattle.sd_boot.specs.declared.packet_texts.Direction.{Direction}
 use Rattle.sd_boot.specs.declared.packet_texts.Direction.TheVariants.{Show, Pack}
@@ -21,32 +22,42 @@ use Rattle.sd_boot.specs.declared.status.Ended.TheVariants.{Done, Refused, Usage
 use Rattle.sd_boot.specs.declared.status.Stop.{Stop}
 use Rattle.sd_boot.specs.declared.status.Stop.TheVariants.{SourceFault, SinkFault, NoMemory}
 
--- `show` turns a packet's line into its text, and `pack` a text into the line of its packet.
-abbrev pub Gives : Direction → Text → Text → Type 0
-Gives Show line out = (packet : Packet) × IsPacketLine line packet × Shows packet out
-Gives Pack line out = (packet : Packet) × Packs line packet × (out ≡ packet_text packet)
+-- `show` turns a packet's line, behind the calls that earlier lines held, into its text; the calls with that of the packet follow.
+abbrev pub ShowsLine : List Heard → Text → Text → List Heard → Type 0
+ShowsLine seen line out new = (packet : Packet) × IsPacketLine line packet × Shows seen packet out × Hears seen packet new
+
+-- `pack` turns a text into the line of its packet.
+abbrev pub PacksLine : Text → Text → Type 0
+PacksLine line out = (packet : Packet) × Packs line packet × (out ≡ packet_text packet)
+
+abbrev pub Gives : Direction → List Heard → Text → Text → List Heard → Type 0
+Gives Show seen line out new = ShowsLine seen line out new
+Gives Pack seen line out new = PacksLine line out × (new ≡ seen)
 
 -- A line that is turned into nothing, and why: `show` reads no packet in it, or one that has no text; for `pack` it is no text
 -- of a packet.
-abbrev pub GivesNone : Direction → Text → ShowError → Type 0
-GivesNone Show line why =
-    (((packet : Packet) → IsPacketLine line packet → ⊥) × (why ≡ not_a_line)) ⊎ ((packet : Packet) × IsPacketLine line packet × HasNoText packet why)
-GivesNone Pack line why = ((packet : Packet) → Packs line packet → ⊥) × (why ≡ not_a_line)
+abbrev pub GivesNone : Direction → List Heard → Text → ShowError → Type 0
+GivesNone Show seen line why =
+    (((packet : Packet) → IsPacketLine line packet → ⊥) × (why ≡ not_a_line)) ⊎ ((packet : Packet) × IsPacketLine line packet × HasNoText seen packet why)
+GivesNone Pack seen line why = ((packet : Packet) → Packs line packet → ⊥) × (why ≡ not_a_line)
 
 -- Why a line is refused, where `end` counts the input's bytes up to its last: it reaches past the input limit, or it is turned
 -- into nothing.
-abbrev pub IsRefusedFor : Direction → Text → ℕ → ShowError → Type 0
-IsRefusedFor d line end why = ((input_limit < end) × (why ≡ not_a_line)) ⊎ ((end ≤ input_limit) × GivesNone d (without_feed line) why)
+abbrev pub IsRefusedFor : Direction → List Heard → Text → ℕ → ShowError → Type 0
+IsRefusedFor d seen line end why = ((input_limit < end) × (why ≡ not_a_line)) ⊎ ((end ≤ input_limit) × GivesNone d seen (without_feed line) why)
 
--- what lines are turned into, one after another, each with a line feed
-abbrev pub AllGive : Direction → List Text → Text → Type 0
-AllGive d [] out = out ≡ []
-AllGive d (line ∷ more) out = (text : Text) × (rest : Text) × Gives d (without_feed line) text × AllGive d more rest × (out ≡ text ++ (10 ∷ rest))
+-- What lines are turned into, one after another, each with a line feed. Each stands behind the calls of those before it, so the
+-- calls that are known go from the first list to the second.
+abbrev pub AllGive : Direction → List Heard → List Text → Text → List Heard → Type 0
+AllGive d seen [] out new = (out ≡ []) × (new ≡ seen)
+AllGive d seen (line ∷ more) out new = (text : Text) × (rest : Text) × (next : List Heard)
+    × Gives d seen (without_feed line) text next × AllGive d next more rest new × (out ≡ text ++ (10 ∷ rest))
 
--- All lines of an input within the limit are turned so.
+-- All lines of an input within the limit are turned so. No call is known before the first.
 pub record IsTranslated (d : Direction) (input out : Text) : Type 0 where
+  pub seen : List Heard
   pub within : length input ≤ input_limit
-  pub given : AllGive d (lines input) out
+  pub given : AllGive d [] (lines input) out seen
 
 -- the line that names a refused line, with the word and the place
 abbrev pub place_line : ℕ → Word → ℕ → Text
@@ -58,12 +69,13 @@ pub record IsTextRefusal (d : Direction) (input out : Text) : Type 0 where
   pub line : Text
   pub others : List Text
   pub texts : Text
+  pub seen : List Heard
   pub word : Word
   pub place : ℕ
   pub cut : lines input ≡ before ++ (line ∷ others)
   pub within : length (concat before) ≤ input_limit
-  pub given : AllGive d before texts
-  pub why : IsRefusedFor d line (length (concat before) + length line) (errors.Bad word place)
+  pub given : AllGive d [] before texts seen
+  pub why : IsRefusedFor d seen line (length (concat before) + length line) (errors.Bad word place)
   pub whole : out ≡ texts ++ place_line (length before + 1) word place
 
 -- a front of what would have been written
@@ -105,10 +117,10 @@ Translates d (Err SinkFault) input out = IsTextFront d input out
 Translates d (Err NoMemory) input out = IsTextFront d input out
 
 -- what a refusal says; want of memory says nothing
-abbrev pub IsNotGiven : Direction → Text → ShowError → Type 0
-IsNotGiven d line (errors.Bad word place) = GivesNone d line (errors.Bad word place)
-IsNotGiven d line errors.NoMemory = Unit {0}
+abbrev pub IsNotGiven : Direction → List Heard → Text → ShowError → Type 0
+IsNotGiven d seen line (errors.Bad word place) = GivesNone d seen line (errors.Bad word place)
+IsNotGiven d seen line errors.NoMemory = Unit {0}
 
-abbrev pub IsLineRefused : Direction → Text → ℕ → ShowError → Type 0
-IsLineRefused d line end (errors.Bad word place) = IsRefusedFor d line end (errors.Bad word place)
-IsLineRefused d line end errors.NoMemory = Unit {0}
+abbrev pub IsLineRefused : Direction → List Heard → Text → ℕ → ShowError → Type 0
+IsLineRefused d seen line end (errors.Bad word place) = IsRefusedFor d seen line end (errors.Bad word place)
+IsLineRefused d seen line end errors.NoMemory = Unit {0}

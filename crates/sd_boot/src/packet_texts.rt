@@ -5,7 +5,7 @@ ghost use Rattle.sd_script.specs.Grammar.{without_feed};
 ghost use Rattle.sd_script.specs.Limits.{input_limit};
 ghost use Rattle.sd_claims.specs.Headline.{Writes};
 ghost use Rattle.sd_boot.specs.Play.{GainsSome};
-ghost use Rattle.sd_boot.specs.PacketTexts.{Gives, IsNotGiven, IsLineRefused, Translates};
+ghost use Rattle.sd_boot.specs.PacketTexts.{ShowsLine, PacksLine, Gives, IsNotGiven, IsLineRefused, Translates};
 
 use crate::input::{INPUT_LIMIT, read_all};
 use crate::output::{place_line, write};
@@ -32,8 +32,8 @@ const NOT_A_LINE: ShowError = ShowError::Bad {
 
 /// The text of the packet whose line this is.
 fn shown(alloc: Global, seen: &mut Seen, line: &[u8]) -> Result<ByteList, ShowError>
-    ensures given { IfOk result (Gives Direction.Show line.now) }
-    ensures refused { IfErr result (IsNotGiven Direction.Show line.now) }
+    ensures given { IfOk result (λ out. ShowsLine seen.old line.now out seen.new) }
+    ensures refused { IfErr result (IsNotGiven Direction.Show seen.old line.now) }
 {
     match read_packet_line(alloc, line) {
         Ok(packet) => show_line(alloc, seen, &packet),
@@ -44,8 +44,8 @@ fn shown(alloc: Global, seen: &mut Seen, line: &[u8]) -> Result<ByteList, ShowEr
 
 /// The line of the packet whose text this is.
 fn packed(alloc: Global, text: &[u8]) -> Result<ByteList, ShowError>
-    ensures given { IfOk result (Gives Direction.Pack text.now) }
-    ensures refused { IfErr result (IsNotGiven Direction.Pack text.now) }
+    ensures given { IfOk result (PacksLine text.now) }
+    ensures refused { IfErr result (IsNotGiven Direction.Pack [] text.now) }
 {
     let packet = pack_line(alloc, text)?;
     let mut line = ByteList::empty(alloc);
@@ -62,8 +62,8 @@ fn turned(
     end: usize,
 ) -> Result<ByteList, ShowError>
     ensures within { OnOk result (end ≤ input_limit) }
-    ensures given { IfOk result (Gives direction (without_feed line.now)) }
-    ensures refused { IfErr result (IsLineRefused direction line.now end) }
+    ensures given { IfOk result (λ out. Gives direction seen.old (without_feed line.now) out seen.new) }
+    ensures refused { IfErr result (IsLineRefused direction seen.old line.now end) }
 {
     if end > INPUT_LIMIT {
         return Err(NOT_A_LINE);
@@ -83,7 +83,7 @@ fn translated(
 ) -> Result<(Ended, ByteList), NoMemory>
     ensures { IfOk result (λ done. Translates direction (Ok done.0) text.now done.1) }
 {
-    let mut seen = Seen::new();
+    let mut seen = Seen::new(alloc);
     let mut output = ByteList::empty(alloc);
     let mut rest = text;
     let mut number: u64 = 0;

@@ -24,7 +24,7 @@ pub(crate) fn play<K: Sink>(alloc: Global, script: Script, sink: &mut K) -> Resu
 {
     let client = script.config.client()?;
     let commands = script.commands;
-    let mut link = Segment::new(alloc, script.config, script.events);
+    let mut link = Segment::new(alloc, script.config, script.events)?;
     let done = session(alloc, &mut link, client, &commands, sink);
     link.facts();
     match done {

@@ -19,6 +19,8 @@ use Rattle.sd_link.specs.Tries.{IsTries}
 use Rattle.sd_link.proofs.Histories.{sends-append}
 use Rattle.sd_link.proofs.InFlight.{all_append}
 use Rattle.sd_claims.specs.Fetching.{Fetch, Takes, takes_none, takes_block, Fetched, Stops, read_request, acknowledge, turn_away, asked_by, request_of, turn_by, turn_on, courtesy, fetch_hearing}
+use Rattle.std.proofs.lemmas.Bool.{eqb-true}
+use Rattle.sd_boot_chain.proofs.Turned.{and_first, and_second}
 use Rattle.sd_boot_chain.proofs.Fetched.{got_split, got_cut, Moved, moved_by, took_by}
 
 -- ---- tries
@@ -49,7 +51,8 @@ pub record Sends (f : Fetch) (S G : Packet → Type 0) (A : Addr → Type 0) : T
   pub request : S (read_request f)
   pub acks : (to : Addr) (n : ℕ) → A to → S (acknowledge f.me to n)
   pub away : (to : Addr) → A to → S (turn_away f.me to)
-  pub heard : (from to : Addr) (body : List ℕ) → G (Udp from to body) → A from
+  -- of what comes to its own address and port
+  pub heard : (from to : Addr) (body : List ℕ) → to.ip ≡ f.me.ip → to.port ≡ f.me.port → G (Udp from to body) → A from
 
 at_port : ℕ → ℕ → Addr
 at_port ip port = record { ip = ip; port = port }
@@ -65,15 +68,18 @@ module _ (f : Fetch) (S G : Packet → Type 0) (A : Addr → Type 0) (k : Sends 
 
   reply_sends : (r : Reception) (packet : Packet) → G packet → AllByRecursion S (courtesy f.me (turn_on f.me r packet).says)
   reply_sends r (Frame bytes) g = tt
-  reply_sends r (Udp src dst body) g = of ((dst.ip == f.me.ip) && (dst.port == f.me.port))
+  reply_sends r (Udp src dst body) g = of ((dst.ip == f.me.ip) && (dst.port == f.me.port)) refl
     where
-      by : (o : Result TftpPacket TftpError) → AllByRecursion S (courtesy f.me (turn_by r src o).says)
-      by (Err why) = tt
-      by (Ok p) = courtesy_sends r src p (turn r src p).says (turn r src p).becomes ((receiving_is_turn r src p (turn r src p).says (turn r src p).becomes).1 (refl, refl)) (k.heard src dst body g)
+      by : (o : Result TftpPacket TftpError) → A src → AllByRecursion S (courtesy f.me (turn_by r src o).says)
+      by (Err why) a = tt
+      by (Ok p) a = courtesy_sends r src p (turn r src p).says (turn r src p).becomes ((receiving_is_turn r src p (turn r src p).says (turn r src p).becomes).1 (refl, refl)) a
 
-      of : (b : Bool) → AllByRecursion S (courtesy f.me (cond b (turn_by r src (reading body)) (ignored r)).says)
-      of true = by (reading body)
-      of false = tt
+      heard_by : (dst.ip == f.me.ip) && (dst.port == f.me.port) ≡ true → A src
+      heard_by mine = k.heard src dst body (eqb-true dst.ip f.me.ip (and_first (dst.ip == f.me.ip) (dst.port == f.me.port) mine)) (eqb-true dst.port f.me.port (and_second (dst.ip == f.me.ip) (dst.port == f.me.port) mine)) g
+
+      of : (b : Bool) → (dst.ip == f.me.ip) && (dst.port == f.me.port) ≡ b → AllByRecursion S (courtesy f.me (cond b (turn_by r src (reading body)) (ignored r)).says)
+      of true mine = by (reading body) (heard_by mine)
+      of false mine = tt
 
   -- the peer is one that it may send to
   abbrev PeerFine : Reception → Type 0
@@ -90,7 +96,7 @@ module _ (f : Fetch) (S G : Packet → Type 0) (A : Addr → Type 0) (k : Sends 
   fetch_tries r rests part peer is all = tries_send S G (request_of f r) (fetch_hearing f.me r).replies (asked_sends r peer) (λ p g. reply_sends r p g) rests part is all
 
   from_heard : (r : Reception) (t : Turn) → (m : Moved f r t G) → A m.turned_on.from
-  from_heard r t m = let u = m.turned_on in k.heard u.from u.to u.body (subst G u.packet_is m.holds)
+  from_heard r t m = let u = m.turned_on in k.heard u.from u.to u.body u.to_ip u.to_port (subst G u.packet_is m.holds)
 
   same_addr : (a : Addr) (ip port : ℕ) → a.ip ≡ ip → a.port ≡ port → A a → A (at_port ip port)
   unfolding at_port

@@ -12,3 +12,7 @@ pub mod FetchSends
 pub mod TrustedFile
 pub mod ClientSends
 pub mod Trusting
+pub mod Rooting
+pub mod Quiet
+pub mod PartSends
+pub mod KeptOff

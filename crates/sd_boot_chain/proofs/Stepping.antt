@@ -1,5 +1,5 @@
 -- The text of one command, and the transcript of one command more.
-use Rattle.std.proofs.Common.{◌≡◌, ℕ, ◌+◌, ◌%◌, List, [], ◌∷◌, ◌++◌, take, Option, Some, None, refl, sym, ◌∙◌, ap, subst, append_assoc}
+use Rattle.std.proofs.Common.{◌≡◌, ℕ, ◌+◌, List, [], ◌∷◌, ◌++◌, take, Option, Some, None, refl, sym, ◌∙◌, ap, subst, append_assoc}
 use Rattle.std.specs.Prelude.{IfSome}
 use Rattle.std.proofs.lemmas.Grind.{flat_map-append}
 use Rattle.std.proofs.lemmas.List.{append-nil, append_cancel_left}
@@ -16,12 +16,13 @@ use Rattle.sd_link.proofs.Histories.{record-append, record-goes, run-append, wor
 use Rattle.sd_script.specs.declared.script.Command.{Command}
 use Rattle.sd_script.specs.declared.told.Told.{Told}
 use Rattle.sd_script.specs.Answers.{answer_line}
-use Rattle.sd_claims.specs.Causes.{IsCaused, boots_after}
+use Rattle.sd_claims.specs.Causes.{IsCaused, counts_after}
+use Rattle.sd_claims.specs.Booting.{Counts, first_counts}
 use Rattle.sd_claims.specs.Ending.{Ends, EndsAfter, AllEnd}
 use Rattle.sd_claims.specs.Transcript.{Done, transcript, AllCaused}
 use Rattle.sd_claims.specs.Session.{IsSession, IsCutSession, parts_of}
 use Rattle.sd_boot_chain.specs.Writing.{GainsFront}
-use Rattle.sd_boot_chain.specs.Step.{ClientView, IsStep, IsAnswered, IsDone}
+use Rattle.sd_boot_chain.specs.Step.{ClientView, HasCounted, IsStep, IsAnswered, IsDone}
 use Rattle.sd_boot_chain.proofs.Gaining.{gains_then, gains_nothing}
 
 -- what was drained is the text of the new entries
@@ -40,7 +41,7 @@ moves_to (Some old) None P Q q m = absurd m
 moves_to (Some old) (Some new) P Q q m = (m.0, m.1, (new, m.1, q, m.2))
 
 -- one command: its answer, the lines that were drained, and the answer line
-pub is_step : (old new : Option History) (client : ClientView) (command : Command) (answer : Told) (next : ℕ) (drained_old drained_new added text : List ℕ)
+pub is_step : (old new : Option History) (client : ClientView) (command : Command) (answer : Told) (next : ClientView) (drained_old drained_new added text : List ℕ)
     → Moves old new (IsDone client command answer next)
     → IfSome new (λ h. drained_new ≡ record_text (whole_record h))
     → drained_new ≡ drained_old ++ added → text ≡ added ++ answer_line answer
@@ -61,20 +62,20 @@ moves_from None (Some new) P Q q m = absurd m
 moves_from (Some old) None P Q q m = absurd m
 moves_from (Some old) (Some new) P Q q m = (m.0, m.1, (q, m.2))
 
--- how many boots reached TFTP in these commands
-abbrev pub boots_done : ℕ → List Done → ℕ
-boots_done boots [] = boots
-boots_done boots (d ∷ ds) = boots_done (boots_after boots d.answer) ds
+-- what the client counts after these commands
+abbrev pub counts_done : Counts → List Done → Counts
+counts_done n [] = n
+counts_done n (d ∷ ds) = counts_done (counts_after n d.answer) ds
 
-boots-push : (boots : ℕ) (done : List Done) (d : Done) → boots_done boots (done ++ d ∷ []) ≡ boots_after (boots_done boots done) d.answer
-boots-push boots [] d = refl
-boots-push boots (e ∷ es) d = boots-push (boots_after boots e.answer) es d
+counts-push : (n : Counts) (done : List Done) (d : Done) → counts_done n (done ++ d ∷ []) ≡ counts_after (counts_done n done) d.answer
+counts-push n [] d = refl
+counts-push n (e ∷ es) d = counts-push (counts_after n e.answer) es d
 
-caused-push : (c : Config) (boots : ℕ) (commands : List Command) (command : Command) (done : List Done) (d : Done) → AllCaused c boots commands done → IsCaused c (boots_done boots done) command d.answer d.part → AllCaused c boots (commands ++ command ∷ []) (done ++ d ∷ [])
-caused-push c boots [] command [] d all one = (one, tt)
-caused-push c boots [] command (e ∷ es) d all one = absurd all
-caused-push c boots (k ∷ ks) command [] d all one = absurd all
-caused-push c boots (k ∷ ks) command (e ∷ es) d all one = (all.0, caused-push c (boots_after boots e.answer) ks command es d all.1 one)
+caused-push : (c : Config) (n : Counts) (commands : List Command) (command : Command) (done : List Done) (d : Done) → AllCaused c n commands done → IsCaused c (counts_done n done) command d.answer d.part → AllCaused c n (commands ++ command ∷ []) (done ++ d ∷ [])
+caused-push c n [] command [] d all one = (one, tt)
+caused-push c n [] command (e ∷ es) d all one = absurd all
+caused-push c n (k ∷ ks) command [] d all one = absurd all
+caused-push c n (k ∷ ks) command (e ∷ es) d all one = (all.0, caused-push c (counts_after n e.answer) ks command es d all.1 one)
 
 -- one command's text
 abbrev pub text_of : Config → World → Done → List ℕ
@@ -120,26 +121,26 @@ session_ends a b xs ys goes done answer cut all one =
     (subst (λ (e : Events). Ends a.config (fates_of e) (world_of b) (whole_record b) answer ys) goes.events
     (subst (λ (c : Config). Ends c (fates_of b.events) (world_of b) (whole_record b) answer ys) goes.config one)))))
 
--- a session so far, and the client's count of boots
-pub record SessionAt (commands : List Command) (before after : Option (List ℕ)) (count : ℕ) (old : History) (part : List Step) : Type 0 where
+-- a session so far, and the client after it
+pub record SessionAt (commands : List Command) (before after : Option (List ℕ)) (client : ClientView) (old : History) (part : List Step) : Type 0 where
   pub session : IsSession commands before after old part
-  pub counted : count ≡ boots_done 0 session.done % 32768
+  pub counted : HasCounted client (counts_done first_counts session.done)
 
 pub session_none : (told : Option (List ℕ)) (h : History) → IsSession [] told told h []
 session_none told h = record { done = []; cut = refl; caused = tt; ended = tt; text = gains_nothing told }
 
-pub session_first : (told : Option (List ℕ)) (count : ℕ) (h : History) → count ≡ 0 → SessionAt [] told told count h []
+pub session_first : (told : Option (List ℕ)) (client : ClientView) (h : History) → HasCounted client first_counts → SessionAt [] told told client h []
 unfolding session_none
-session_first told count h fresh = record { session = session_none told h; counted = fresh }
+session_first told client h fresh = record { session = session_none told h; counted = fresh }
 
 -- a command more, with its cause and its text
-module _ (client : ClientView) (commands : List Command) (command : Command) (before mid : Option (List ℕ)) (drained text : List ℕ) (next : ℕ) (a b : History) (xs ys : List Step)
-    (goes : GoesOn a b xs) (is_for : IsFor a.config client.config) (s : SessionAt commands before mid client.boots a xs) (was : drained ≡ record_text (whole_record b)) (t : IsStep client command drained text next b ys) where
+module _ (client : ClientView) (commands : List Command) (command : Command) (before mid : Option (List ℕ)) (drained text : List ℕ) (next : ClientView) (a b : History) (xs ys : List Step)
+    (goes : GoesOn a b xs) (is_for : IsFor a.config client.config) (s : SessionAt commands before mid client a xs) (was : drained ≡ record_text (whole_record b)) (t : IsStep client command drained text next b ys) where
   last : Done
   last = record { part = ys; answer = t.answer }
 
-  answered : IsAnswered (boots_done 0 s.session.done) command t.answer b ys × (next ≡ boots_after (boots_done 0 s.session.done) t.answer % 32768)
-  answered = t.answered (subst (λ (c : Config). IsFor c client.config) (sym goes.config) is_for) (boots_done 0 s.session.done) s.counted
+  answered : IsAnswered (counts_done first_counts s.session.done) command t.answer b ys × HasCounted next (counts_after (counts_done first_counts s.session.done) t.answer)
+  answered = t.answered (subst (λ (c : Config). IsFor c client.config) (sym goes.config) is_for) (counts_done first_counts s.session.done) s.counted
 
   so_far : List ℕ
   so_far = transcript a.config (world_of a) s.session.done
@@ -154,11 +155,11 @@ module _ (client : ClientView) (commands : List Command) (command : Command) (be
       ∙ ap (λ (c : Config). text_of c (world_of b) last) goes.config
       ∙ ap (λ (w : World). text_of a.config w last) (world-goes a b xs goes ∙ ap (λ (l : List Step). run a.config (world_of a) l) s.session.cut)
 
-  caused : AllCaused a.config 0 (commands ++ command ∷ []) (s.session.done ++ last ∷ [])
+  caused : AllCaused a.config first_counts (commands ++ command ∷ []) (s.session.done ++ last ∷ [])
   unfolding last
   caused =
-      caused-push a.config 0 commands command s.session.done last s.session.caused
-      (subst (λ (c : Config). IsCaused c (boots_done 0 s.session.done) command t.answer ys) goes.config answered.0.caused)
+      caused-push a.config first_counts commands command s.session.done last s.session.caused
+      (subst (λ (c : Config). IsCaused c (counts_done first_counts s.session.done) command t.answer ys) goes.config answered.0.caused)
 
   ended : AllEnd a.config (fates_of a.events) (world_of a) (whole_record a) (s.session.done ++ last ∷ [])
   unfolding last
@@ -182,7 +183,7 @@ module _ (client : ClientView) (commands : List Command) (command : Command) (be
       ended = ended;
       text = subst (λ (l : List ℕ). Gains before after l) (sym whole) (gains_then before mid after so_far line s.session.text (subst (λ (l : List ℕ). Gains mid after l) shown gained));
     };
-    counted = answered.1 ∙ ap (λ (n : ℕ). n % 32768) (sym (boots-push 0 s.session.done last));
+    counted = subst (HasCounted next) (sym (counts-push first_counts s.session.done last)) answered.1;
   }
 
   -- a command whose text was written in part
@@ -193,7 +194,7 @@ module _ (client : ClientView) (commands : List Command) (command : Command) (be
     done = s.session.done ++ last ∷ [];
     more = [];
     cut = cut ∙ sym (append-nil (parts_of (s.session.done ++ last ∷ [])));
-    caused = subst (λ (l : List Command). AllCaused a.config 0 l (s.session.done ++ last ∷ [])) (sym more) caused;
+    caused = subst (λ (l : List Command). AllCaused a.config first_counts l (s.session.done ++ last ∷ [])) (sym more) caused;
     ended = ended;
     front = so_far ++ gained.0;
     short = (gained.1.0, append_assoc so_far gained.0 gained.1.0 ∙ ap (λ (l : List ℕ). so_far ++ l) (gained.1.1 ∙ shown) ∙ sym whole);

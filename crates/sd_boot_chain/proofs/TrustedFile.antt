@@ -1,5 +1,5 @@
 -- A file that came from the configured server is the configured one, where nothing else was asked for.
-use Rattle.std.proofs.Common.{◌≡◌, ℕ, List, [], Some, Result, Ok, refl, sym, ◌∙◌, ap}
+use Rattle.std.proofs.Common.{◌≡◌, ◌≢◌, ℕ, List, [], Some, Result, Ok, refl, sym, ◌∙◌, ap}
 use Rattle.std.specs.Prelude.{codes}
 use Rattle.sd_outside.specs.declared.packet.Addr.{Addr}
 use Rattle.sd_outside.specs.declared.packet.Packet.TheVariants.{Udp}
@@ -15,7 +15,7 @@ use Rattle.sd_link.specs.Program.{boot_file}
 use Rattle.sd_link.specs.World.{start}
 use Rattle.sd_link.specs.Steps.{Step, run, AllAllowed}
 use Rattle.sd_link.specs.Parts.{got_in}
-use Rattle.sd_link.specs.Requests.{AsksOnlyFor}
+use Rattle.sd_link.specs.Requests.{AsksOnlyFor, KeepsOffRpc}
 use Rattle.sd_link.proofs.InFlight.{all_always}
 use Rattle.sd_link.proofs.NoRequests.{ack_asks_not, error_asks_not}
 use Rattle.sd_link.proofs.FromServer.{AnyPacket}
@@ -23,6 +23,7 @@ use Rattle.sd_link.proofs.BlocksInFlight.{blocks_kept, blocks_got}
 use Rattle.sd_link.proofs.AskedFor.{AsksRight, asks_on}
 use Rattle.sd_claims.specs.Fetching.{Fetch, Fetched}
 use Rattle.sd_boot_chain.proofs.Fetched.{fetched_file}
+use Rattle.sd_boot_chain.proofs.KeptOff.{AnyAddr, kept_off, fetched_there}
 use Rattle.sd_boot_chain.proofs.FetchSends.{Sends, fetched_sends}
 
 octet_clean : HasNoZero (codes "octet")
@@ -37,9 +38,6 @@ request_names name asked mode clean reads =
     let bytes = packet_bytes (Rrq name (codes "octet")) in
     asks_same (reading bytes) name (codes "octet") asked mode (spelled_is_read bytes (Rrq name (codes "octet")) (spells_rrq name (codes "octet") [] refl clean octet_clean)) reads
 
-abbrev AnyAddr : Addr → Type 0
-AnyAddr a = Unit {0}
-
 bodies_same : (from to me dst : Addr) (body own : List ℕ) → Udp from to body ≡ Udp me dst own → own ≡ body
 bodies_same from to me dst body own e = cc
 
@@ -50,15 +48,17 @@ asks_its_file f clean = record {
       request_names f.name asked mode clean (ap reading (sym (bodies_same f.me _ f.me to (packet_bytes (Rrq f.name (codes "octet"))) body is)) ∙ reads);
   acks = λ to n a dst body asked mode is reads. absurd (ack_asks_not n asked mode (ap reading (sym (bodies_same f.me to f.me dst _ body is)) ∙ reads));
   away = λ to a dst body asked mode is reads. absurd (error_asks_not 5 [] asked mode (ap reading (sym (bodies_same f.me to f.me dst _ body is)) ∙ reads));
-  heard = λ from to body g. tt;
+  heard = λ from to body ip port g. tt;
 }
 
--- What is fetched after steps of this configuration, in which no other file was asked for from there, is the file of that name.
-pub fetched_is_configured : (c : Config) → IsConfig c → (before part : List Step) (f : Fetch) (bytes : List ℕ) → HasNoZero f.name → AsksOnlyFor f.me f.name (run c (start c) before)
+-- What is fetched after steps of this configuration, in which no other file was asked for from there and nothing was sent from
+-- there to the RPC ports, is the file of that name.
+pub fetched_is_configured : (c : Config) → IsConfig c → (before part : List Step) (f : Fetch) (bytes : List ℕ) → HasNoZero f.name → AsksOnlyFor f.me f.name (run c (start c) before) → KeepsOffRpc f.me (run c (start c) before)
     → AllAllowed c (run c (start c) before) part → Fetched f bytes part → boot_file c f.name ≡ Some bytes
-fetched_is_configured c is before part f bytes clean asks allowed came =
+fetched_is_configured c is before part f bytes clean asks off allowed came =
     let w = run c (start c) before in
+    let apart : f.me.ip ≢ c.server.ip = λ e. is.ips (sym e ∙ fetched_there c w f bytes part allowed came) in
     let sends = fetched_sends f (AsksRight f.me f.name) AnyPacket AnyAddr (asks_its_file f clean) bytes part came (all_always AnyPacket (got_in part) (λ p. tt)) in
-    let kept = blocks_kept c is f.me f.name before asks in
-    let got = blocks_got c is f.me f.name w part kept (asks_on c is f.me f.name before part asks sends) allowed in
+    let kept = blocks_kept c is f.me f.name before asks off in
+    let got = blocks_got c is f.me f.name w part kept (asks_on c is f.me f.name apart before part asks sends) (kept_off c is f apart before part bytes off allowed came) allowed in
     fetched_file c f bytes part came got

@@ -36,11 +36,11 @@ progress_is (step.Again to n) t u e = absurd (cc)
 progress_is (step.Stranger to) t u e = absurd (cc)
 progress_is step.Ignored t u e = absurd (cc)
 
-and_first : (a b : Bool) → a && b ≡ true → a ≡ true
+pub and_first : (a b : Bool) → a && b ≡ true → a ≡ true
 and_first true b e = refl
 and_first false b e = absurd (cc)
 
-and_second : (a b : Bool) → a && b ≡ true → b ≡ true
+pub and_second : (a b : Bool) → a && b ≡ true → b ≡ true
 and_second true b e = e
 and_second false b e = absurd (cc)
 

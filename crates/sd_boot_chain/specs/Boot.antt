@@ -1,13 +1,16 @@
 -- What a client does after it learned its address.
-use Rattle.std.specs.Prelude.{◌+◌, List}
+use Rattle.std.specs.Prelude.{ℕ, ◌+◌, List, [], ◌++◌}
+use Rattle.sd_link.specs.Config.{IsFor}
 use Rattle.sd_link.specs.Program.{program_name}
-use Rattle.sd_link.specs.Steps.{Step}
-use Rattle.sd_link.specs.declared.link.Stage.TheVariants as stage
+use Rattle.sd_link.specs.Steps.{Step, History}
+use Rattle.sd_link.specs.Tries.{Answered}
+use Rattle.sd_rpc_retry.specs.declared.calling.Caller.{Caller}
 use Rattle.sd_script.specs.declared.told.Told.{Told}
-use Rattle.sd_script.specs.declared.told.Told.TheVariants.{AddrOk, AddrTimeout, AddrFlood, AddrLinkFault, BootUnbuilt, BootTimeout, BootFlood, BootRefused, BootTooLarge, BootLinkFault, WaitOk, WaitFlood, WaitLinkFault}
-use Rattle.sd_claims.specs.Rarp.{Learned}
-use Rattle.sd_claims.specs.Fetching.{Fetch, Fetched, FetchTimedOut, FetchFlooded, FetchRefused, FetchTooLarge}
-use Rattle.sd_boot_chain.specs.Step.{ClientView}
+use Rattle.sd_claims.specs.Rarp.{Learned, rarp_request, rarp_hearing}
+use Rattle.sd_claims.specs.Fetching.{Fetch}
+use Rattle.sd_claims.specs.Booting.{Counts}
+use Rattle.sd_claims.specs.Causes.{IsBootCaused, counts_after}
+use Rattle.sd_boot_chain.specs.Step.{ClientView, HasCounted}
 
 -- the next fetch of the boot program
 abbrev pub task_of : ClientView → Learned → Fetch
@@ -19,30 +22,13 @@ task_of client learned = record {
   wait = client.config.wait;
 }
 
--- what the fetch is answered by
-abbrev pub IsFetchAnswer : Fetch → Told → List Step → Type 0
-IsFetchAnswer f (BootUnbuilt stage.Whoami program) part = Fetched f program part
-IsFetchAnswer f (BootTimeout stage.Tftp) part = FetchTimedOut f part
-IsFetchAnswer f (BootFlood stage.Tftp) part = FetchFlooded f part
-IsFetchAnswer f (BootRefused stage.Tftp code) part = FetchRefused f code part
-IsFetchAnswer f (BootTooLarge size) part = FetchTooLarge f size part
-IsFetchAnswer f BootLinkFault part = Unit {0}
-IsFetchAnswer f (BootUnbuilt stage.Rarp program) part = ⊥
-IsFetchAnswer f (BootUnbuilt stage.Tftp program) part = ⊥
-IsFetchAnswer f (BootUnbuilt stage.Wait program) part = ⊥
-IsFetchAnswer f (BootTimeout stage.Rarp) part = ⊥
-IsFetchAnswer f (BootTimeout stage.Whoami) part = ⊥
-IsFetchAnswer f (BootTimeout stage.Wait) part = ⊥
-IsFetchAnswer f (BootFlood stage.Rarp) part = ⊥
-IsFetchAnswer f (BootFlood stage.Whoami) part = ⊥
-IsFetchAnswer f (BootFlood stage.Wait) part = ⊥
-IsFetchAnswer f (BootRefused stage.Rarp code) part = ⊥
-IsFetchAnswer f (BootRefused stage.Whoami code) part = ⊥
-IsFetchAnswer f (BootRefused stage.Wait code) part = ⊥
-IsFetchAnswer f (AddrOk ip) part = ⊥
-IsFetchAnswer f AddrTimeout part = ⊥
-IsFetchAnswer f (AddrFlood step) part = ⊥
-IsFetchAnswer f AddrLinkFault part = ⊥
-IsFetchAnswer f (WaitOk ticks) part = ⊥
-IsFetchAnswer f (WaitFlood ticks) part = ⊥
-IsFetchAnswer f (WaitLinkFault ticks) part = ⊥
+-- who makes the next call
+abbrev pub caller_of : ClientView → ℕ → Caller
+caller_of client ip = record { ip = ip; port = 1021; machine = []; next_xid = client.next_xid; tries = client.config.tries; wait = client.config.wait }
+
+-- Whatever part told the address, the boot's answer has its cause in both parts together, and the client counts on.
+abbrev pub IsBootAnswer : ClientView → Learned → Told → ClientView → History → List Step → Type 0
+IsBootAnswer client learned answer next old part =
+    IsFor old.config client.config → (n : Counts) → HasCounted client n → (address : List Step)
+    → Answered (rarp_request old.config.client.mac) (rarp_hearing old.config.client.mac) old.config.tries old.config.wait learned address
+    → IsBootCaused old.config n answer (address ++ part) × HasCounted next (counts_after n answer)

@@ -6,15 +6,21 @@ use Rattle.sd_link.specs.Steps.{Step, History, world_of, whole_record, record_of
 use Rattle.sd_link.specs.Printing.{record_text}
 use Rattle.sd_script.specs.declared.script.Command.{Command}
 use Rattle.sd_script.specs.declared.told.Told.{Told}
-use Rattle.sd_script.specs.declared.told.Told.TheVariants.{AddrOk, AddrTimeout, AddrFlood, AddrLinkFault, BootUnbuilt, BootTimeout, BootFlood, BootRefused, BootTooLarge, BootLinkFault, WaitOk, WaitFlood, WaitLinkFault}
+use Rattle.sd_script.specs.declared.told.Told.TheVariants.{AddrOk, AddrTimeout, AddrFlood, AddrLinkFault, BootUnbuilt, BootTimeout, BootFlood, BootDenied, BootRefused, BootNoPort, BootTooLarge, BootLinkFault, WaitOk, WaitFlood, WaitLinkFault}
 use Rattle.sd_script.specs.Answers.{answer_line}
-use Rattle.sd_claims.specs.Causes.{IsCaused, boots_after}
+use Rattle.sd_claims.specs.Booting.{Counts}
+use Rattle.sd_claims.specs.Causes.{IsCaused, counts_after}
 use Rattle.sd_claims.specs.Ending.{EndsAfter}
 
--- a client as its callers see it: what it was given, and how many boots reached TFTP, modulo 32,768
+-- a client as its callers see it: what it was given, how many boots reached TFTP, modulo 32,768, and the number of its next call
 pub record ClientView : Type 0 where
   pub config : ClientConfig
   pub boots : ℕ
+  pub next_xid : ℕ
+
+-- it counted so much
+abbrev pub HasCounted : ClientView → Counts → Type 0
+HasCounted client n = (client.boots ≡ n.boots % 32768) × (client.next_xid ≡ n.next_xid)
 
 -- the answer of a command that a fault of the link ended
 abbrev pub IsFault : Told → Type 0
@@ -27,24 +33,25 @@ IsFault BootLinkFault = Unit {0}
 IsFault (BootUnbuilt step program) = ⊥
 IsFault (BootTimeout step) = ⊥
 IsFault (BootFlood step) = ⊥
+IsFault (BootDenied step code) = ⊥
 IsFault (BootRefused step code) = ⊥
+IsFault BootNoPort = ⊥
 IsFault (BootTooLarge size) = ⊥
 IsFault (WaitOk ticks) = ⊥
 IsFault (WaitFlood ticks) = ⊥
 
--- the answer has its cause, after so many boots that reached TFTP, and the command ends so
-pub record IsAnswered (boots : ℕ) (command : Command) (answer : Told) (old : History) (part : List Step) : Type 0 where
-  pub caused : IsCaused old.config boots command answer part
+-- the answer has its cause, where the client counted so much before, and the command ends so
+pub record IsAnswered (n : Counts) (command : Command) (answer : Told) (old : History) (part : List Step) : Type 0 where
+  pub caused : IsCaused old.config n command answer part
   pub ended : EndsAfter old answer part
 
--- A client of this configuration did the command: whatever number of boots there was that gives the client's count, the answer has
--- its cause, and the count goes on.
-abbrev pub IsDone : ClientView → Command → Told → ℕ → History → List Step → Type 0
+-- A client of this configuration did the command: whatever it had counted, the answer has its cause, and it counts on.
+abbrev pub IsDone : ClientView → Command → Told → ClientView → History → List Step → Type 0
 IsDone client command answer next old part =
-    IsFor old.config client.config → (boots : ℕ) → client.boots ≡ boots % 32768 → IsAnswered boots command answer old part × (next ≡ boots_after boots answer % 32768)
+    IsFor old.config client.config → (n : Counts) → HasCounted client n → IsAnswered n command answer old part × HasCounted next (counts_after n answer)
 
 -- Where the record was drained before, the text is the new lines and the answer line.
-pub record IsStep (client : ClientView) (command : Command) (drained text : List ℕ) (next : ℕ) (old : History) (part : List Step) : Type 0 where
+pub record IsStep (client : ClientView) (command : Command) (drained text : List ℕ) (next : ClientView) (old : History) (part : List Step) : Type 0 where
   pub answer : Told
   pub answered : IsDone client command answer next old part
   pub shown : drained ≡ record_text (whole_record old) → text ≡ record_text (record_of old.config (world_of old) part) ++ answer_line answer

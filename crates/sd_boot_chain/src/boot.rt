@@ -1,4 +1,4 @@
-//! How the client boots, as far as that is built: RARP, and then TFTP from the responder.
+//! How the client boots, as far as that is built: RARP, TFTP from the responder, and the calls that lead to its root.
 ghost use Rattle.std.specs.Prelude.{◌≡◌, ◌≤◌, ◌+◌, ◌%◌, IfOk, OnOk};
 ghost use Rattle.sd_script.specs.declared.script.Command.TheVariants as commands;
 ghost use Rattle.sd_outside.specs.Causes.{Rose};
@@ -6,17 +6,17 @@ ghost use Rattle.sd_link.specs.Config.{IsArch};
 ghost use Rattle.sd_link.specs.Link.{Moves};
 ghost use Rattle.sd_link.specs.Program.{program_name};
 ghost use Rattle.sd_tftp.specs.Grammar.{HasNoZero};
-ghost use Rattle.sd_claims.specs.Fetching.{Fetch};
 ghost use Rattle.sd_rpc_retry.specs.Lasting.{Lasts};
-ghost use Rattle.sd_boot_chain.specs.Durations.{most_ticks, most_fetch_ticks};
-ghost use Rattle.sd_boot_chain.specs.Fetch.{IsFetch, fetch_of};
-ghost use Rattle.sd_boot_chain.specs.Boot.{task_of, IsFetchAnswer};
+ghost use Rattle.sd_boot_chain.specs.Durations.{most_ticks, most_boot_ticks, most_calls_ticks, most_calls, HasCallsLeft};
+ghost use Rattle.sd_boot_chain.specs.Boot.{caller_of, IsBootAnswer};
+ghost use Rattle.sd_boot_chain.specs.Root.{IsCallsAnswer};
 ghost use Rattle.sd_boot_chain.specs.Step.{IsFault, IsDone};
 ghost use Rattle.sd_boot_chain.specs.Address.{shows_learned};
 
 use crate::address::Learned;
 use crate::client::Client;
 use crate::fetch::{Fetched, fetch};
+use crate::root::{answer_to, find_mount};
 use sd_link::{Link, Stage};
 use sd_outside::{ByteList, NoMemory};
 use sd_rpc_retry::Asked;
@@ -48,10 +48,12 @@ pub(crate) fn program_name(alloc: Global, arch: &[u8], ip: u32) -> Result<ByteLi
 impl Client {
     /// Boots as far as that is built, and answers the command.
     pub fn boot<L: Link>(&mut self, link: &mut L) -> Result<Told, NoMemory>
+        requires xid { HasCallsLeft self.old.next_xid }
         ensures same { self.new.config ≡ self.old.config }
         // Over a link that tells, and whose count of faults didn't rise, the answer is earned or caused by what happened.
         ensures caused { (Rose (L.faults link.old) (L.faults link.new) → ⊥) → IfOk result (λ answer.
-            Moves (L.told link.old) (L.told link.new) (IsDone self.old commands.Boot answer self.new.boots)) }
+            Moves (L.told link.old) (L.told link.new) (IsDone self.old commands.Boot answer self.new)) }
+        ensures calls { self.new.next_xid ≤ self.old.next_xid + most_calls }
         ensures lasts { Lasts most_ticks (L.told link.old) (L.told link.new) }
         ensures fault { IfOk result (λ answer. IsFault answer → Rose (L.faults link.old) (L.faults link.new)) }
         ensures faults { L.faults link.old ≤ L.faults link.new }
@@ -66,12 +68,14 @@ impl Client {
         }
     }
 
-    /// Fetches the boot program from the responder, from the next port.
+    /// Fetches the boot program from the responder, from the next port, and then looks for the root.
     fn fetch_program<L: Link>(&mut self, link: &mut L, learned: Learned) -> Result<Told, NoMemory>
+        requires xid { HasCallsLeft self.old.next_xid }
         ensures same { self.new.config ≡ self.old.config }
-        ensures counted { OnOk result (self.new.boots ≡ (self.old.boots + 1) % 32768) }
-        ensures told { IfOk result (λ answer. Moves (L.told link.old) (L.told link.new) (λ old part. IsFetchAnswer (task_of self.old (shows_learned learned)) answer part)) }
-        ensures lasts { Lasts most_fetch_ticks (L.told link.old) (L.told link.new) }
+        ensures caused { (Rose (L.faults link.old) (L.faults link.new) → ⊥) → IfOk result (λ answer.
+            Moves (L.told link.old) (L.told link.new) (IsBootAnswer self.old (shows_learned learned) answer self.new)) }
+        ensures calls { self.new.next_xid ≤ self.old.next_xid + most_calls }
+        ensures lasts { Lasts most_boot_ticks (L.told link.old) (L.told link.new) }
         ensures fault { IfOk result (λ answer. IsFault answer → Rose (L.faults link.old) (L.faults link.new)) }
         ensures faults { L.faults link.old ≤ L.faults link.new }
         ensures drained { L.drained link.new ≡ L.drained link.old }
@@ -79,10 +83,7 @@ impl Client {
         let task = self.program_task(learned)?;
         self.count_boot();
         match fetch(self.alloc(), link, &task)? {
-            Fetched::File(program) => Ok(Told::BootUnbuilt {
-                step: Stage::Whoami,
-                program,
-            }),
+            Fetched::File(program) => self.find_root(link, learned.address, program),
             Fetched::Timeout => Ok(Told::BootTimeout { step: Stage::Tftp }),
             Fetched::Flood => Ok(Told::BootFlood { step: Stage::Tftp }),
             Fetched::Refused(code) => Ok(Told::BootRefused {
@@ -92,5 +93,29 @@ impl Client {
             Fetched::TooLarge(size) => Ok(Told::BootTooLarge { size }),
             Fetched::Fault => Ok(Told::BootLinkFault),
         }
+    }
+
+    /// Asks, from this address, where the root is, and for the port of MOUNT there.
+    fn find_root<L: Link>(
+        &mut self,
+        link: &mut L,
+        address: u32,
+        program: ByteList,
+    ) -> Result<Told, NoMemory>
+        requires xid { HasCallsLeft self.old.next_xid }
+        ensures same { self.new.config ≡ self.old.config }
+        ensures boots { self.new.boots ≡ self.old.boots }
+        ensures told { IfOk result (λ answer. Moves (L.told link.old) (L.told link.new) (IsCallsAnswer (caller_of self.old address) program answer self.new.next_xid)) }
+        ensures calls { self.new.next_xid ≤ self.old.next_xid + most_calls }
+        ensures lasts { Lasts most_calls_ticks (L.told link.old) (L.told link.new) }
+        ensures fault { IfOk result (λ answer. IsFault answer → Rose (L.faults link.old) (L.faults link.new)) }
+        ensures faults { L.faults link.old ≤ L.faults link.new }
+        ensures drained { L.drained link.new ≡ L.drained link.old }
+    {
+        let root = ByteList::from_slice(self.alloc(), b"root")?;
+        let mut caller = self.caller(address);
+        let found = find_mount(self.alloc(), link, &mut caller, root);
+        self.set_next_xid(caller.next_xid);
+        answer_to(program, found)
     }
 }

@@ -10,8 +10,9 @@ ghost use Rattle.sd_claims.specs.Rarp.{rarp_request, rarp_hearing};
 ghost use Rattle.sd_rpc_retry.specs.Lasting.{Lasts, most_asking_ticks};
 ghost use Rattle.sd_rpc_retry.specs.Asking.{IsAsked, IsAskedFault};
 ghost use Rattle.sd_boot_chain.specs.Address.{shows_learned};
-ghost use Rattle.sd_boot_chain.specs.Boot.{task_of};
-ghost use Rattle.sd_boot_chain.specs.Durations.{most_ticks};
+ghost use Rattle.sd_claims.specs.Booting.{first_counts};
+ghost use Rattle.sd_boot_chain.specs.Boot.{task_of, caller_of};
+ghost use Rattle.sd_boot_chain.specs.Durations.{most_ticks, most_calls, HasCallsLeft};
 ghost use Rattle.sd_boot_chain.specs.Fetch.{IsFetch, fetch_of};
 ghost use Rattle.sd_boot_chain.specs.Step.{IsFault, IsDone};
 
@@ -20,8 +21,8 @@ use crate::boot::program_name;
 use crate::fetch::Task;
 use crate::pause::wait;
 use sd_link::{ClientConfig, Link};
-use sd_outside::{Addr, NoMemory};
-use sd_rpc_retry::Asked;
+use sd_outside::{Addr, ByteList, NoMemory};
+use sd_rpc_retry::{Asked, Caller};
 use sd_script::{Command, Told};
 use std::alloc::Global;
 use std::marker::Model;
@@ -31,13 +32,18 @@ const FIRST_PORT: u16 = 2048;
 
 const PORTS: u16 = 32_768;
 
-/// A diskless client, seen as what it was given and how many of its boots reached TFTP.
+/// The port from which the client calls.
+const CALLS_FROM: u16 = 1021;
+
+/// A diskless client, seen as what it was given, how many of its boots reached TFTP and the number of its next call.
 #[derive(Drop)]
 pub struct Client {
     alloc: Global,
     config: ClientConfig,
     /// How many boots reached TFTP, modulo 32,768: each fetches from a port of its own.
     boots: u16,
+    /// The number of the next call.
+    next_xid: u32,
 }
 
 impl Model for Client {
@@ -47,7 +53,7 @@ impl Model for Client {
 
     ghost Value = { ClientView };
 
-    ghost view = { λ client. record { config = client.config; boots = client.boots } };
+    ghost view = { λ client. record { config = client.config; boots = client.boots; next_xid = client.next_xid } };
 
     ghost invariant = { λ client. IsClientConfig client.config × (client.boots < 32768) };
 }
@@ -56,12 +62,13 @@ impl Client {
     /// A client that was just switched on.
     pub fn new(alloc: Global, config: ClientConfig) -> Result<Client, NoMemory>
         requires { IsClientConfig config }
-        ensures { IfOk result (λ client. client ≡ record { config = config; boots = 0 }) }
+        ensures { IfOk result (λ client. client ≡ record { config = config; boots = 0; next_xid = 1 }) }
     {
         Ok(Client {
             alloc,
             config,
             boots: 0,
+            next_xid: 1,
         })
     }
 
@@ -115,18 +122,44 @@ impl Client {
     pub(crate) fn count_boot(&mut self)
         ensures same { self.new.config ≡ self.old.config }
         ensures counted { self.new.boots ≡ (self.old.boots + 1) % 32768 }
+        ensures xid { self.new.next_xid ≡ self.old.next_xid }
     {
         self.boots = (self.boots + 1) % PORTS;
     }
 
+    /// Who makes the next call, from this address.
+    pub(crate) fn caller(&self, ip: u32) -> Caller
+        ensures caller { result ≡ caller_of self.now ip }
+        ensures tries { result.tries ≤ 64 }
+        ensures wait { result.wait ≤ 1000 }
+    {
+        Caller {
+            ip,
+            port: CALLS_FROM,
+            machine: ByteList::empty(self.alloc),
+            next_xid: self.next_xid,
+            tries: self.config.tries,
+            wait: self.config.wait,
+        }
+    }
+
+    /// The next call has this number.
+    pub(crate) fn set_next_xid(&mut self, next_xid: u32)
+        ensures { self.new ≡ record self.old { next_xid = next_xid } }
+    {
+        self.next_xid = next_xid;
+    }
+
     /// Does one command over a link, and answers it.
     pub fn step<L: Link>(&mut self, link: &mut L, command: &Command) -> Result<Told, NoMemory>
-        requires { IsCommand command.now }
+        requires command { IsCommand command.now }
+        requires xid { HasCallsLeft self.old.next_xid }
         ensures same { self.new.config ≡ self.old.config }
         // Over a link that tells, and whose count of faults didn't rise, the answer is earned or caused by what happened,
         // and the command ends as its answer says.
         ensures caused { (Rose (L.faults link.old) (L.faults link.new) → ⊥) → IfOk result (λ answer.
-            Moves (L.told link.old) (L.told link.new) (IsDone self.old command.now answer self.new.boots)) }
+            Moves (L.told link.old) (L.told link.new) (IsDone self.old command.now answer self.new)) }
+        ensures calls { self.new.next_xid ≤ self.old.next_xid + most_calls }
         // Whatever comes of it, a link that tells goes on telling.
         ensures lasts { Lasts most_ticks (L.told link.old) (L.told link.new) }
         ensures fault { IfOk result (λ answer. IsFault answer → Rose (L.faults link.old) (L.faults link.new)) }

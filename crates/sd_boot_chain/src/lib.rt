@@ -9,6 +9,7 @@ mod boot;
 mod client;
 mod fetch;
 mod pause;
+mod root;
 mod transcript;
 mod writing;
 

@@ -2,7 +2,11 @@
 ghost use Rattle.std.specs.Prelude.{◌≡◌, ◌≤◌};
 ghost use Rattle.sd_outside.specs.Causes.{Rose};
 
+mod calls;
+mod memory;
+
 use super::session;
+use calls::{Asked, Calls, answer, asked_by};
 use sd_link::{Link, LinkError};
 use sd_outside::{Addr, ByteList, CalmSink, Mac, NoMemory, Packet};
 use sd_rarp::{RarpFrame, write_frame};
@@ -86,21 +90,52 @@ fn transfer(
     }
 }
 
+/// The frame that tells the client its address.
+fn rarp_reply(alloc: Global) -> Result<Packet, NoMemory> {
+    let frame = write_frame(&RarpFrame::Reply {
+        dst: CLIENT,
+        src: SERVER,
+        sender: SERVER,
+        sender_ip: SERVER_IP,
+        target: CLIENT,
+        target_ip: CLIENT_IP,
+    });
+    Ok(Packet::Frame(ByteList::from_slice(alloc, &frame)?))
+}
+
 /// What the server sends for a packet.
-fn reply(alloc: Global, manner: Manner, packet: &Packet) -> Result<Option<Packet>, NoMemory> {
+fn reply(
+    alloc: Global,
+    manner: Manner,
+    calls: Calls,
+    packet: &Packet,
+) -> Result<Option<Packet>, NoMemory> {
     match packet {
-        Packet::Frame(_) => {
-            let frame = write_frame(&RarpFrame::Reply {
-                dst: CLIENT,
-                src: SERVER,
-                sender: SERVER,
-                sender_ip: SERVER_IP,
-                target: CLIENT,
-                target_ip: CLIENT_IP,
-            });
-            Ok(Some(Packet::Frame(ByteList::from_slice(alloc, &frame)?)))
-        }
-        Packet::Udp { src, body, .. } => transfer(alloc, manner, *src, body.as_slice()),
+        Packet::Frame(_) => Ok(Some(rarp_reply(alloc)?)),
+        Packet::Udp { src, dst, body } => match asked_by(*dst, body.as_slice()) {
+            Some(asked) => answer(alloc, calls, *src, asked, body.as_slice()),
+            None => {
+                if dst.port == 111 {
+                    Ok(None)
+                } else {
+                    transfer(alloc, manner, *src, body.as_slice())
+                }
+            }
+        },
+    }
+}
+
+/// Whether frames come without end after this packet.
+fn floods(manner: Manner, calls: Calls, packet: &Packet) -> bool {
+    match packet {
+        Packet::Frame(_) => match manner {
+            Manner::Floods => true,
+            _ => false,
+        },
+        Packet::Udp { dst, body, .. } => match (calls, asked_by(*dst, body.as_slice())) {
+            (Calls::Floods(step), Some(asked)) => step == asked,
+            _ => false,
+        },
     }
 }
 
@@ -109,6 +144,9 @@ fn reply(alloc: Global, manner: Manner, packet: &Packet) -> Result<Option<Packet
 struct Wire {
     alloc: Global,
     manner: Manner,
+    calls: Calls,
+    /// Frames come without end.
+    flooded: bool,
     tick: u32,
     /// What comes next.
     coming: Option<Packet>,
@@ -119,10 +157,12 @@ struct Wire {
 }
 
 impl Wire {
-    fn new(alloc: Global, manner: Manner, sound: u32) -> Wire {
+    fn new(alloc: Global, manner: Manner, calls: Calls, sound: u32) -> Wire {
         Wire {
             alloc,
             manner,
+            calls,
+            flooded: false,
             tick: 0,
             coming: None,
             sound,
@@ -155,12 +195,13 @@ impl Wire {
                 self.tick = self.tick.saturating_add(1);
                 Ok(Some(packet))
             }
-            None => match self.manner {
-                Manner::Floods => Ok(Some(Packet::Frame(ByteList::empty(self.alloc)))),
-                Manner::Gives { .. } => Ok(None),
-                Manner::Refuses { .. } => Ok(None),
-                Manner::Sleeps => Ok(None),
-            },
+            None => {
+                if self.flooded {
+                    Ok(Some(Packet::Frame(ByteList::empty(self.alloc))))
+                } else {
+                    Ok(None)
+                }
+            }
         }
     }
 }
@@ -183,7 +224,10 @@ impl Link for Wire {
     }
 
     fn send(&mut self, packet: &Packet) -> Result<(), LinkError> {
-        match reply(self.alloc, self.manner, packet) {
+        if floods(self.manner, self.calls, packet) {
+            self.flooded = true;
+        }
+        match reply(self.alloc, self.manner, self.calls, packet) {
             Ok(coming) => {
                 self.coming = coming;
                 Ok(())
@@ -217,8 +261,10 @@ impl Link for Wire {
     }
 }
 
+#[derive(Drop)]
 struct Row {
     manner: Manner,
+    calls: Calls,
     /// So many receives go well.
     sound: u32,
     commands: &'static [u8],
@@ -228,6 +274,7 @@ struct Row {
 const ROWS: [Row; 9] = [
     // the other commands
     Row {
+        calls: Calls::Port(700),
         manner: Manner::Sleeps,
         sound: 99,
         commands: b"addr\nwait 7\n",
@@ -235,30 +282,35 @@ const ROWS: [Row; 9] = [
     },
     // one block, and more
     Row {
+        calls: Calls::Port(700),
         manner: Manner::Gives { whole: 0 },
         sound: 99,
         commands: b"boot\n",
-        answers: b"boot unbuilt whoami program 616263\n",
+        answers: b"boot unbuilt mnt program 616263\n",
     },
     Row {
+        calls: Calls::Port(700),
         manner: Manner::Gives { whole: 2 },
         sound: 99,
         commands: b"boot\nboot\n",
-        answers: b"boot unbuilt whoami program 42*1024.616263\nboot unbuilt whoami program 42*1024.616263\n",
+        answers: b"boot unbuilt mnt program 42*1024.616263\nboot unbuilt mnt program 42*1024.616263\n",
     },
     Row {
+        calls: Calls::Port(700),
         manner: Manner::Refuses { code: 3 },
         sound: 99,
         commands: b"boot\n",
         answers: b"boot refused tftp 3\n",
     },
     Row {
+        calls: Calls::Port(700),
         manner: Manner::Sleeps,
         sound: 99,
         commands: b"boot\n",
         answers: b"boot timeout tftp\n",
     },
     Row {
+        calls: Calls::Port(700),
         manner: Manner::Floods,
         sound: 9_999,
         commands: b"boot\nwait 1\n",
@@ -266,6 +318,7 @@ const ROWS: [Row; 9] = [
     },
     // the first receive fails
     Row {
+        calls: Calls::Port(700),
         manner: Manner::Gives { whole: 2 },
         sound: 0,
         commands: b"boot\naddr\nwait 1\n",
@@ -273,12 +326,14 @@ const ROWS: [Row; 9] = [
     },
     // the second, and the third
     Row {
+        calls: Calls::Port(700),
         manner: Manner::Gives { whole: 2 },
         sound: 1,
         commands: b"boot\n",
         answers: b"boot linkfault\n",
     },
     Row {
+        calls: Calls::Port(700),
         manner: Manner::Gives { whole: 2 },
         sound: 2,
         commands: b"boot\n",
@@ -292,11 +347,41 @@ fn does(rt: &impl Abort, alloc: Global, row: &Row) -> Result<(), Fail> {
     text.push_slice(row.commands)?;
     let script = read_script(alloc, text.as_slice())?;
     let client = script.config.client()?;
-    let mut link = Wire::new(alloc, row.manner, row.sound);
+    let mut link = Wire::new(alloc, row.manner, row.calls, row.sound);
     let mut sink = CalmSink::new(alloc, 1024)?;
     let done = session(alloc, &mut link, client, &script.commands, &mut sink);
     assert_eq!(rt; done, Ok(()));
     assert_eq!(rt; sink.bytes(), Some(row.answers));
+    Ok(())
+}
+
+/// How the calls end.
+const CALLS: [(Calls, &[u8]); 11] = [
+    (Calls::Port(0), b"boot noport getport\n"),
+    (Calls::Port(1), b"boot unbuilt mnt program 616263\n"),
+    (Calls::Sleeps(Asked::Whoami), b"boot timeout whoami\n"),
+    (Calls::Sleeps(Asked::Getfile), b"boot timeout getfile\n"),
+    (Calls::Sleeps(Asked::Getport), b"boot timeout getport\n"),
+    (Calls::Refuses(Asked::Whoami), b"boot denied whoami 1\n"),
+    (Calls::Refuses(Asked::Getfile), b"boot denied getfile 1\n"),
+    (Calls::Refuses(Asked::Getport), b"boot denied getport 1\n"),
+    (Calls::Renumbers(Asked::Getfile), b"boot timeout getfile\n"),
+    (Calls::Floods(Asked::Whoami), b"boot flood whoami\n"),
+    (Calls::Floods(Asked::Getport), b"boot flood getport\n"),
+];
+
+#[test]
+fn ends_at_each_call(rt: HostRuntime) -> Result<(), Fail> {
+    for (calls, answers) in &CALLS {
+        let row = Row {
+            manner: Manner::Gives { whole: 0 },
+            calls: *calls,
+            sound: 9_999,
+            commands: b"boot\n",
+            answers: *answers,
+        };
+        does(&rt, rt.alloc(), &row)?;
+    }
     Ok(())
 }
 
@@ -311,6 +396,7 @@ fn does_the_rows(rt: HostRuntime) -> Result<(), Fail> {
 /// A file of more blocks than there are numbers.
 const TOO_LARGE: Row = Row {
     manner: Manner::Gives { whole: 65_535 },
+    calls: Calls::Port(700),
     sound: 99_999,
     commands: b"boot\n",
     answers: b"boot toolarge 33553920\n",

@@ -1,5 +1,5 @@
 //! A list of commands, done one after another over any link.
-ghost use Rattle.std.specs.Prelude.{◌≡◌, ◌≤◌, length, IfOk, OnOk, OnErr, IfSome, IsErrOf};
+ghost use Rattle.std.specs.Prelude.{◌≡◌, ◌≤◌, ◌+◌, length, IfOk, OnOk, OnErr, IfSome, IsErrOf};
 ghost use Rattle.std.specs.List.{All};
 ghost use Rattle.sd_outside.specs.Causes.{Rose};
 ghost use Rattle.sd_link.specs.Config.{IsFor, IsClientConfig};
@@ -8,10 +8,11 @@ ghost use Rattle.sd_link.specs.Printing.{record_text};
 ghost use Rattle.sd_link.specs.Link.{Moves};
 ghost use Rattle.sd_script.specs.Limits.{command_limit};
 ghost use Rattle.sd_script.specs.Rules.{IsCommand};
+ghost use Rattle.sd_claims.specs.Booting.{first_counts};
 ghost use Rattle.sd_claims.specs.Session.{IsSession, IsCutSession};
 ghost use Rattle.sd_rpc_retry.specs.Lasting.{Lasts};
-ghost use Rattle.sd_boot_chain.specs.Durations.{most_ticks, most_session_ticks};
-ghost use Rattle.sd_boot_chain.specs.Step.{IsStep};
+ghost use Rattle.sd_boot_chain.specs.Durations.{most_ticks, most_session_ticks, most_calls, HasCallsLeft};
+ghost use Rattle.sd_boot_chain.specs.Step.{HasCounted, IsStep};
 
 use crate::client::Client;
 use crate::writing::write_all;
@@ -47,9 +48,11 @@ fn text_of<L: Link>(
     link: &mut L,
     command: &Command,
 ) -> Result<ByteList, NoMemory>
-    requires { IsCommand command.now }
+    requires command { IsCommand command.now }
+    requires xid { HasCallsLeft client.old.next_xid }
     ensures done { (Rose (L.faults link.old) (L.faults link.new) → ⊥) → IfOk result (λ text.
-        Moves (L.told link.old) (L.told link.new) (IsStep client.old command.now (L.drained link.old) text client.new.boots)) }
+        Moves (L.told link.old) (L.told link.new) (IsStep client.old command.now (L.drained link.old) text client.new)) }
+    ensures calls { client.new.next_xid ≤ client.old.next_xid + most_calls }
     ensures lasts { Lasts most_ticks (L.told link.old) (L.told link.new) }
     ensures drained { OnOk result (IfSome (L.told link.new) (λ h. L.drained link.new ≡ record_text (whole_record h))) }
     ensures faults { L.faults link.old ≤ L.faults link.new }
@@ -73,7 +76,7 @@ fn do_all<L: Link, K: Sink>(
     requires commands { All IsCommand commands.now }
     requires few { length commands.now ≤ command_limit }
     requires drained { IfSome (L.told link.old) (λ h. L.drained link.old ≡ record_text (whole_record h)) }
-    requires fresh { client.old.boots ≡ 0 }
+    requires fresh { HasCounted client.old first_counts }
     ensures done { (Rose (L.faults link.old) (L.faults link.new) → ⊥) → OnOk result (
         Moves (L.told link.old) (L.told link.new) (λ old part. IsFor old.config client.old.config →
         IsSession commands.now (K.written sink.old) (K.written sink.new) old part)) }

@@ -6,7 +6,7 @@ use Rattle.sd_link.specs.World.{World}
 use Rattle.sd_link.specs.Steps.{Step, Entry, History, run, record_of, world_of, whole_record}
 use Rattle.sd_link.specs.Lawful.{AllGot, Settles, SendsSettled, EndsWithGet}
 use Rattle.sd_script.specs.declared.told.Told.{Told}
-use Rattle.sd_script.specs.declared.told.Told.TheVariants.{AddrOk, AddrTimeout, AddrFlood, AddrLinkFault, BootUnbuilt, BootTimeout, BootFlood, BootRefused, BootTooLarge, BootLinkFault, WaitOk, WaitFlood, WaitLinkFault}
+use Rattle.sd_script.specs.declared.told.Told.TheVariants.{AddrOk, AddrTimeout, AddrFlood, AddrLinkFault, BootUnbuilt, BootTimeout, BootFlood, BootDenied, BootRefused, BootNoPort, BootTooLarge, BootLinkFault, WaitOk, WaitFlood, WaitLinkFault}
 use Rattle.sd_claims.specs.Transcript.{Done}
 
 -- Of a command that was done in these steps. Where nothing waited at first, the client sends only where nothing waits.
@@ -21,7 +21,9 @@ Ends c fates w entries AddrLinkFault part = Unit {0}
 Ends c fates w entries (BootUnbuilt step program) part = Unit {0}
 Ends c fates w entries (BootTimeout step) part = Unit {0}
 Ends c fates w entries (BootFlood step) part = Unit {0}
+Ends c fates w entries (BootDenied step code) part = Unit {0}
 Ends c fates w entries (BootRefused step code) part = Unit {0}
+Ends c fates w entries BootNoPort part = Unit {0}
 Ends c fates w entries (BootTooLarge size) part = Unit {0}
 Ends c fates w entries BootLinkFault part = Unit {0}
 -- a pause that wasn't cut short ends where nothing waits

@@ -10,8 +10,9 @@ use Rattle.sd_script.specs.declared.script.Command.{Command}
 use Rattle.sd_script.specs.declared.script.Command.TheVariants.{Boot}
 use Rattle.sd_script.specs.declared.script.Script.{Script}
 use Rattle.sd_script.specs.declared.told.Told.{Told}
-use Rattle.sd_script.specs.declared.told.Told.TheVariants.{AddrOk, AddrTimeout, AddrFlood, AddrLinkFault, BootUnbuilt, BootTimeout, BootFlood, BootRefused, BootTooLarge, BootLinkFault, WaitOk, WaitFlood, WaitLinkFault}
+use Rattle.sd_script.specs.declared.told.Told.TheVariants.{AddrOk, AddrTimeout, AddrFlood, AddrLinkFault, BootUnbuilt, BootTimeout, BootFlood, BootDenied, BootRefused, BootNoPort, BootTooLarge, BootLinkFault, WaitOk, WaitFlood, WaitLinkFault}
 use Rattle.sd_script.specs.Grammar.{IsScript, IsFirstOutside}
+use Rattle.sd_claims.specs.Booting.{first_counts}
 use Rattle.sd_claims.specs.Machine.{first_state, IsRun}
 use Rattle.sd_claims.specs.Transcript.{Done, transcript, AllCaused}
 use Rattle.sd_claims.specs.Session.{parts_of}
@@ -31,7 +32,9 @@ IsOk AddrLinkFault = ⊥
 IsOk (BootUnbuilt step program) = ⊥
 IsOk (BootTimeout step) = ⊥
 IsOk (BootFlood step) = ⊥
+IsOk (BootDenied step code) = ⊥
 IsOk (BootRefused step code) = ⊥
+IsOk BootNoPort = ⊥
 IsOk (BootTooLarge size) = ⊥
 IsOk BootLinkFault = ⊥
 IsOk (WaitOk shown) = Unit {0}
@@ -43,7 +46,7 @@ IsOk (WaitLinkFault shown) = ⊥
 pub record AreDone (s : Script) (commands : List Command) (done : List Done) : Type 0 where
   pub lawful : IsLawful s.config (fates_of s.events) (parts_of done)
   pub machine : IsRun s.config first_state commands (map (λ d. d.answer) done)
-  pub caused : AllCaused s.config 0 commands done
+  pub caused : AllCaused s.config first_counts commands done
   pub complete : IsCalm s → AllByRecursion (λ d. IsOk d.answer) done
 
 abbrev pub written : Script → List Done → List ℕ

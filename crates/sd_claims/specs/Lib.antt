@@ -8,3 +8,4 @@ pub mod Transcript
 pub mod Ending
 pub mod Session
 pub mod Headline
+pub mod Laws

@@ -1,12 +1,12 @@
 -- The boot machine: what a diskless client's commands may be answered. It has no packet, no tick and no retry.
-use Rattle.std.specs.Prelude.{◌≡◌, ℕ, List, [], ◌∷◌, Option, Some, Bool, true, false}
+use Rattle.std.specs.Prelude.{◌≡◌, ℕ, List, [], ◌∷◌, Some, Bool, false}
 use Rattle.sd_link.specs.declared.config.Config.{Config}
-use Rattle.sd_link.specs.declared.link.Stage.TheVariants.{Whoami}
+use Rattle.sd_link.specs.declared.link.Stage.TheVariants.{Mnt}
 use Rattle.sd_link.specs.Program.{program_of}
 use Rattle.sd_script.specs.declared.script.Command.{Command}
 use Rattle.sd_script.specs.declared.script.Command.TheVariants.{Addr, Boot, Wait}
 use Rattle.sd_script.specs.declared.told.Told.{Told}
-use Rattle.sd_script.specs.declared.told.Told.TheVariants.{AddrOk, AddrTimeout, AddrFlood, AddrLinkFault, BootUnbuilt, BootTimeout, BootFlood, BootRefused, BootTooLarge, BootLinkFault, WaitOk, WaitFlood, WaitLinkFault}
+use Rattle.sd_script.specs.declared.told.Told.TheVariants.{AddrOk, AddrTimeout, AddrFlood, AddrLinkFault, BootUnbuilt, BootTimeout, BootFlood, BootDenied, BootRefused, BootNoPort, BootTooLarge, BootLinkFault, WaitOk, WaitFlood, WaitLinkFault}
 
 -- the flag is up once a boot was ok, and then each page has at most one entry
 pub record State : Type 0 where
@@ -25,7 +25,9 @@ IsAddrAnswer c AddrLinkFault = Unit {0}
 IsAddrAnswer c (BootUnbuilt step program) = ⊥
 IsAddrAnswer c (BootTimeout step) = ⊥
 IsAddrAnswer c (BootFlood step) = ⊥
+IsAddrAnswer c (BootDenied step code) = ⊥
 IsAddrAnswer c (BootRefused step code) = ⊥
+IsAddrAnswer c BootNoPort = ⊥
 IsAddrAnswer c (BootTooLarge size) = ⊥
 IsAddrAnswer c BootLinkFault = ⊥
 IsAddrAnswer c (WaitOk shown) = ⊥
@@ -34,10 +36,12 @@ IsAddrAnswer c (WaitLinkFault shown) = ⊥
 
 -- what `boot` may be answered: the configured program, where the step after it isn't built, or a refusal of the network
 abbrev pub IsBootAnswer : Config → Told → Type 0
-IsBootAnswer c (BootUnbuilt step program) = (step ≡ Whoami) × (program_of c ≡ Some program)
+IsBootAnswer c (BootUnbuilt step program) = (step ≡ Mnt) × (program_of c ≡ Some program)
 IsBootAnswer c (BootTimeout step) = Unit {0}
 IsBootAnswer c (BootFlood step) = Unit {0}
+IsBootAnswer c (BootDenied step code) = Unit {0}
 IsBootAnswer c (BootRefused step code) = Unit {0}
+IsBootAnswer c BootNoPort = Unit {0}
 IsBootAnswer c (BootTooLarge size) = Unit {0}
 IsBootAnswer c BootLinkFault = Unit {0}
 IsBootAnswer c (AddrOk ip) = ⊥
@@ -60,7 +64,9 @@ IsWaitAnswer ticks AddrLinkFault = ⊥
 IsWaitAnswer ticks (BootUnbuilt step program) = ⊥
 IsWaitAnswer ticks (BootTimeout step) = ⊥
 IsWaitAnswer ticks (BootFlood step) = ⊥
+IsWaitAnswer ticks (BootDenied step code) = ⊥
 IsWaitAnswer ticks (BootRefused step code) = ⊥
+IsWaitAnswer ticks BootNoPort = ⊥
 IsWaitAnswer ticks (BootTooLarge size) = ⊥
 IsWaitAnswer ticks BootLinkFault = ⊥
 

@@ -1,5 +1,5 @@
 -- What a client asks and learns by RARP (RFC 903).
-use Rattle.std.specs.Prelude.{ℕ, List, [], Option, Some, None, Result, Ok, Err, if◌then◌else◌, replicate}
+use Rattle.std.specs.Prelude.{ℕ, [], Option, Some, None, Result, Ok, Err, if◌then◌else◌, replicate}
 use Rattle.sd_outside.specs.declared.packet.Mac.{Mac}
 use Rattle.sd_outside.specs.declared.packet.Packet.{Packet}
 use Rattle.sd_outside.specs.declared.packet.Packet.TheVariants.{Frame, Udp}

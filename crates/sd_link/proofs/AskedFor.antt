@@ -1,5 +1,5 @@
 -- What one address and port has asked for, after it sent more.
-use Rattle.std.proofs.Common.{◌≡◌, ℕ, suc, List, [], ◌∷◌, Some, Ok, refl, sym, ◌∙◌, ap}
+use Rattle.std.proofs.Common.{◌≡◌, ◌≢◌, ℕ, suc, List, [], ◌∷◌, Some, Ok, refl, sym, ◌∙◌, ap}
 use Rattle.std.specs.Prelude.{slice_get}
 use Rattle.std.specs.List.{AllByRecursion}
 use Rattle.sd_outside.specs.declared.packet.Addr.{Addr}
@@ -24,17 +24,17 @@ all_from : {A : Type 0} (P : A → Type 0) (xs : List A) → ((i : ℕ) (x : A) 
 all_from P [] at = tt
 all_from P (x ∷ xs) at = (at 0 x refl, all_from P xs (λ i y e. at (suc i) y e))
 
--- a packet of the server asks for nothing
-server_asks_right : (c : Config) (me : Addr) (name : List ℕ) (packet : Packet) → IsServers c packet → AsksRight me name packet
-server_asks_right c me name (Frame bytes) s to body asked mode is reads = absurd (cc)
-server_asks_right c me name (Udp src dst own) s to body asked mode is reads =
-    let same : body ≡ own = cc in
-    absurd (s.no_request asked mode (ap reading (sym same) ∙ reads))
+-- a packet of the server comes from its address
+server_asks_right : (c : Config) (me : Addr) (name : List ℕ) → me.ip ≢ c.server.ip → (packet : Packet) → IsServers c packet → AsksRight me name packet
+server_asks_right c me name away (Frame bytes) s to body asked mode is reads = absurd (cc)
+server_asks_right c me name away (Udp src dst own) s to body asked mode is reads =
+    let same : src ≡ me = cc in
+    absurd (away (sym (ap (λ (a : Addr). a.ip) same) ∙ s.ip))
 
-module _ (c : Config) (is : IsConfig c) (me : Addr) (name : List ℕ) where
+module _ (c : Config) (is : IsConfig c) (me : Addr) (name : List ℕ) (away : me.ip ≢ c.server.ip) where
   both_right : (from : Sender) (packet : Packet) → SentFine (AsksRight me name) (IsServers c) from packet → AsksRight me name packet
   both_right Client packet h = h
-  both_right Server packet h = server_asks_right c me name packet h
+  both_right Server packet h = server_asks_right c me name away packet h
 
   right_sent : (from : Sender) (packet : Packet) → SentFine AnyPacket (IsServers c) from packet → AsksRight me name packet → SentFine (AsksRight me name) (IsServers c) from packet
   right_sent Client packet h right = right

@@ -1,5 +1,5 @@
 -- The blocks in flight to one who asks only for one file are that file's.
-use Rattle.std.proofs.Common.{◌≡◌, ℕ, ◌-◌, ◌*◌, ◌<◌, ◌≤◌, ◌^◌, List, [], length, drop, Option, Some, None, Result, Ok, refl, sym, ◌∙◌, ap, subst, arith, length-take, length-drop}
+use Rattle.std.proofs.Common.{◌≡◌, ◌≢◌, true, ℕ, ◌-◌, ◌*◌, ◌<◌, ◌≤◌, ◌^◌, List, [], length, drop, Option, Some, None, Result, Ok, refl, sym, ◌∙◌, ap, subst, arith, inl, inr, length-take, length-drop}
 use Rattle.std.specs.Prelude.{slice_get}
 use Rattle.std.specs.Option.{option_map}
 use Rattle.std.specs.Str.{bytes_eq}
@@ -22,11 +22,13 @@ use Rattle.sd_link.specs.Config.{IsConfig, IsBootFile, boot_file_limit}
 use Rattle.sd_link.specs.Program.{boot_file}
 use Rattle.sd_link.specs.World.{World, Flying, Server, Session, ServerPart, start}
 use Rattle.sd_link.specs.Sessions.{bytes_or_none, file_of, present_block, block_packet, new_session, sent_again, next_block}
+use Rattle.sd_link.specs.RpcReply.{is_rpc_port}
 use Rattle.sd_link.specs.Reply.{rarp_answer, as_frame}
 use Rattle.sd_link.specs.Steps.{Step, run, AllAllowed}
 use Rattle.sd_link.specs.Parts.{sends_in, got_in}
-use Rattle.sd_link.specs.Requests.{AsksOnlyFor}
-use Rattle.sd_link.proofs.InFlight.{all_always, all_at, all_found, all_recursive, Rules, AllRequests, SentFine, FlyingFine, Keeps, keeps_run, keeps_got}
+use Rattle.sd_link.specs.Requests.{AsksOnlyFor, IsRpcPort, KeepsOffRpc}
+use Rattle.sd_link.proofs.RpcSilence.{rpc_port_is, all_replies}
+use Rattle.sd_link.proofs.InFlight.{all_always, all_at, all_found, all_recursive, Rules, AllAsk, SentFine, FlyingFine, Keeps, keeps_run, keeps_got}
 use Rattle.sd_link.proofs.FromServer.{AnyPacket}
 
 -- the session sends the file of this name, and its present block stands in it or right behind its end
@@ -53,6 +55,10 @@ Carries c me name packet = (from : Addr) (body bytes : List ℕ) (n : ℕ) → p
 -- from there this file alone is asked for
 abbrev pub AsksFor : Addr → List ℕ → Addr → List ℕ → Type 0
 AsksFor me name from asked = from ≡ me → asked ≡ name
+
+-- from there no RPC program is called
+abbrev pub CallsFromElsewhere : Addr → Addr → ℕ → List ℕ → Type 0
+CallsFromElsewhere me from port body = from ≢ me
 
 -- ---- the files
 
@@ -128,41 +134,47 @@ module _ (c : Config) (is : IsConfig c) (me : Addr) (name : List ℕ) where
   first_serves part tick from asked bytes asks found peer =
       record { named = asks peer; file = bytes; found = ap (λ (l : List ℕ). boot_file c l) (sym (asks peer)) ∙ found; first = omega arith; inside = omega arith }
 
-  block_rules : Rules c (Carries c me name) (Serves c me name) (AsksFor me name)
+  block_rules : Rules c (Carries c me name) (Serves c me name) (AsksFor me name) (CallsFromElsewhere me)
   block_rules = record {
     frames = λ bytes. frames_carry c me name (rarp_answer c (rarp.reading bytes));
     errors = λ port to code is lt. error_carries c me name (record { ip = c.server.ip; port = port }) to code lt;
+    replies = λ from port body rpc elsewhere. all_replies (Carries c me name) c from port body (λ sent src own bytes n packet_is reads. let same : from ≡ me = cc in absurd (elsewhere same));
     blocks = block_carries;
     first = first_serves;
     again = again_serves;
     onward = next_serves;
   }
 
-  -- the requests of one who asks only for one file
-  requests_for : (w : World) → AsksOnlyFor me name w → AllRequests (AsksFor me name) w
-  requests_for w asks id f at from to body asked mode is reads mine =
-      asks id f to body asked mode at (is ∙ ap (λ (a : Addr). Udp a to body) mine) reads
+  rpc_port : (port : ℕ) → is_rpc_port port ≡ true → IsRpcPort port
+  rpc_port port e = elim (rpc_port_is port e) [ inl a ↦ inl a | inr a ↦ inr (inl a) ]
+
+  -- what is asked where one asks only for one file, and calls no program from there
+  asks_for : (w : World) → AsksOnlyFor me name w → KeepsOffRpc me w → AllAsk (AsksFor me name) (CallsFromElsewhere me) w
+  asks_for w asks off id f at = record {
+    requests = λ from to body asked mode is reads mine. asks id f to body asked mode at (is ∙ ap (λ (a : Addr). Udp a to body) mine) reads;
+    calls = λ from to body is rpc mine. off id f to body at (is ∙ ap (λ (a : Addr). Udp a to body) mine) (rpc_port to.port rpc);
+  }
 
   any_sends : (steps : List Step) → AllByRecursion AnyPacket (sends_in steps)
   any_sends steps = all_always AnyPacket (sends_in steps) (λ p. tt)
 
   -- Where it holds before, and this file alone is asked for, it holds after steps.
-  pub blocks_run : (w : World) (steps : List Step) → Keeps AnyPacket (Carries c me name) (Serves c me name) w → AsksOnlyFor me name (run c w steps) → Keeps AnyPacket (Carries c me name) (Serves c me name) (run c w steps)
-  blocks_run w steps h asks = keeps_run c (Carries c me name) (Serves c me name) (AsksFor me name) block_rules AnyPacket w steps h (any_sends steps) (requests_for (run c w steps) asks)
+  pub blocks_run : (w : World) (steps : List Step) → Keeps AnyPacket (Carries c me name) (Serves c me name) w → AsksOnlyFor me name (run c w steps) → KeepsOffRpc me (run c w steps) → Keeps AnyPacket (Carries c me name) (Serves c me name) (run c w steps)
+  blocks_run w steps h asks off = keeps_run c (Carries c me name) (Serves c me name) (AsksFor me name) (CallsFromElsewhere me) block_rules AnyPacket w steps h (any_sends steps) (asks_for (run c w steps) asks off)
 
   -- The blocks that the client gets in these steps are the file's.
-  pub blocks_got : (w : World) (steps : List Step) → Keeps AnyPacket (Carries c me name) (Serves c me name) w → AsksOnlyFor me name (run c w steps) → AllAllowed c w steps → AllByRecursion (Carries c me name) (got_in steps)
-  blocks_got w steps h asks all = keeps_got c (Carries c me name) (Serves c me name) (AsksFor me name) block_rules AnyPacket w steps h (any_sends steps) (requests_for (run c w steps) asks) all
+  pub blocks_got : (w : World) (steps : List Step) → Keeps AnyPacket (Carries c me name) (Serves c me name) w → AsksOnlyFor me name (run c w steps) → KeepsOffRpc me (run c w steps) → AllAllowed c w steps → AllByRecursion (Carries c me name) (got_in steps)
+  blocks_got w steps h asks off all = keeps_got c (Carries c me name) (Serves c me name) (AsksFor me name) (CallsFromElsewhere me) block_rules AnyPacket w steps h (any_sends steps) (asks_for (run c w steps) asks off) all
 
   -- From the start on, sessions serve the file and packets carry it.
-  pub blocks_kept : (steps : List Step) → AsksOnlyFor me name (run c (start c) steps) → Keeps AnyPacket (Carries c me name) (Serves c me name) (run c (start c) steps)
-  blocks_kept steps asks = blocks_run (start c) steps (tt, tt) asks
+  pub blocks_kept : (steps : List Step) → AsksOnlyFor me name (run c (start c) steps) → KeepsOffRpc me (run c (start c) steps) → Keeps AnyPacket (Carries c me name) (Serves c me name) (run c (start c) steps)
+  blocks_kept steps asks off = blocks_run (start c) steps (tt, tt) asks off
 
   -- Each session with one who asks only for one file sends that file.
-  pub sessions_serve : (steps : List Step) → AsksOnlyFor me name (run c (start c) steps) → AllByRecursion (Serves c me name) (run c (start c) steps).server.sessions
-  sessions_serve steps asks = (blocks_kept steps asks).1
+  pub sessions_serve : (steps : List Step) → AsksOnlyFor me name (run c (start c) steps) → KeepsOffRpc me (run c (start c) steps) → AllByRecursion (Serves c me name) (run c (start c) steps).server.sessions
+  sessions_serve steps asks off = (blocks_kept steps asks off).1
 
   -- Each block in flight to it is that file's.
-  pub blocks_in_flight : (steps : List Step) → AsksOnlyFor me name (run c (start c) steps) → (id : ℕ) (f : Flying) → slice_get (run c (start c) steps).flight id ≡ Some f → f.from ≡ Server → Carries c me name f.packet
-  blocks_in_flight steps asks id f at from =
-      subst (λ s. SentFine AnyPacket (Carries c me name) s f.packet) from (all_at (FlyingFine AnyPacket (Carries c me name)) (run c (start c) steps).flight id f (blocks_kept steps asks).0 at)
+  pub blocks_in_flight : (steps : List Step) → AsksOnlyFor me name (run c (start c) steps) → KeepsOffRpc me (run c (start c) steps) → (id : ℕ) (f : Flying) → slice_get (run c (start c) steps).flight id ≡ Some f → f.from ≡ Server → Carries c me name f.packet
+  blocks_in_flight steps asks off id f at from =
+      subst (λ s. SentFine AnyPacket (Carries c me name) s f.packet) from (all_at (FlyingFine AnyPacket (Carries c me name)) (run c (start c) steps).flight id f (blocks_kept steps asks off).0 at)

@@ -1,5 +1,5 @@
 -- What the server sends: from which ports, and which frames.
-use Rattle.std.proofs.Common.{◌≡◌, ℕ, Bool, true, false, cond, List, [], length, Some, None, Result, Ok, Err, refl, sym, ◌∙◌, ap, subst, arith, inr}
+use Rattle.std.proofs.Common.{◌≡◌, ℕ, Bool, true, false, cond, List, [], length, Some, None, Result, Ok, Err, refl, sym, ◌∙◌, ap, subst, arith, inl, inr, ◌⊎◌}
 use Rattle.std.proofs.lemmas.Slice.Eq.{bytes_eq-Decides}
 use Rattle.std.specs.Prelude.{slice_get}
 use Rattle.std.specs.Option.{option_map}
@@ -21,22 +21,24 @@ use Rattle.sd_link.specs.declared.config.Config.{Config}
 use Rattle.sd_link.specs.Config.{IsConfig}
 use Rattle.sd_link.specs.World.{World, Flying, Server, Session, start}
 use Rattle.sd_link.specs.Sessions.{present_block}
+use Rattle.sd_link.specs.RpcReply.{is_rpc_port}
 use Rattle.sd_link.specs.Reply.{rarp_answer, as_frame}
 use Rattle.sd_link.specs.Steps.{Step, run, AllAllowed}
 use Rattle.sd_link.specs.Parts.{sends_in, got_in}
 use Rattle.sd_link.proofs.NoRequests.{block_asks_not, error_asks_not}
-use Rattle.sd_link.proofs.InFlight.{all_always, all_at, IsTftpPort, Rules, AllRequests, SentFine, FlyingFine, Keeps, keeps_run, keeps_got}
+use Rattle.sd_link.proofs.RpcSilence.{rpc_port_is, all_replies}
+use Rattle.sd_link.proofs.InFlight.{all_always, all_at, IsTftpPort, Rules, AllAsk, SentFine, FlyingFine, Keeps, keeps_run, keeps_got}
 
 -- the frame tells the client its address and the server's
 pub record TellsAddresses (c : Config) (bytes : List ℕ) : Type 0 where
   pub src : Mac
   pub reads : reading bytes ≡ Ok (Reply src c.server.mac c.server.mac c.server.ip c.client.mac c.client.ip)
 
--- a datagram from the server's address and a port of TFTP, which is no request for a file
+-- a datagram from the server's address and a port of TFTP or of an RPC program; from a port of TFTP it is no request for a file
 pub record IsServersDatagram (c : Config) (src : Addr) (body : List ℕ) : Type 0 where
   pub ip : src.ip ≡ c.server.ip
-  pub port : IsTftpPort src.port
-  pub no_request : (name mode : List ℕ) → tftp.reading body ≡ Ok (Rrq name mode) → ⊥
+  pub port : IsTftpPort src.port ⊎ (is_rpc_port src.port ≡ true)
+  pub no_request : IsTftpPort src.port → (name mode : List ℕ) → tftp.reading body ≡ Ok (Rrq name mode) → ⊥
 
 -- what the server sends: such frames and datagrams
 abbrev pub IsServers : Config → Packet → Type 0
@@ -52,6 +54,9 @@ AnySession s = Unit {0}
 
 abbrev pub AnyRequest : Addr → List ℕ → Type 0
 AnyRequest from name = Unit {0}
+
+abbrev pub AnyCall : Addr → ℕ → List ℕ → Type 0
+AnyCall from port body = Unit {0}
 
 mac_of : List ℕ → Mac
 mac_of bytes = record { 0 = bytes }
@@ -80,26 +85,31 @@ module _ (c : Config) (is : IsConfig c) where
       let s : length src.0 ≡ 6 = ap (λ (m : Mac). length m.0) at.1 ∙ mac_wide bytes 6 (omega (arith, at.0)) in
       with_tells src target s (is_mac c.client.mac target) refl
 
-  server_rules : Rules c (IsServers c) AnySession AnyRequest
+  no_tftp : (port : ℕ) → is_rpc_port port ≡ true → IsTftpPort port → ⊥
+  no_tftp port e (inl tftp) = let no : is_rpc_port 69 ≡ true = subst (λ (n : ℕ). is_rpc_port n ≡ true) tftp e in absurd (cc)
+  no_tftp port e (inr session) = elim (rpc_port_is port e) [ inl a ↦ absurd (omega (arith, a, session.0)) | inr a ↦ absurd (omega (arith, a, session.0)) ]
+
+  pub server_rules : Rules c (IsServers c) AnySession AnyRequest AnyCall
   server_rules = record {
     frames = λ bytes. answer_tells bytes (reading bytes) refl;
-    errors = λ port to code is lt. record { ip = refl; port = is; no_request = error_asks_not code [] };
-    blocks = λ s h. record { ip = refl; port = inr (omega arith, omega arith); no_request = block_asks_not s.block (present_block c s) };
+    errors = λ port to code is lt. record { ip = refl; port = inl is; no_request = λ _. error_asks_not code [] };
+    replies = λ from port body rpc o. all_replies (IsServers c) c from port body (λ sent. record { ip = refl; port = inr rpc; no_request = λ tftp. absurd (no_tftp port rpc tftp) });
+    blocks = λ s h. record { ip = refl; port = inl (inr (omega arith, omega arith)); no_request = λ _. block_asks_not s.block (present_block c s) };
     first = λ part tick from name bytes r is. tt;
     again = λ tick s h. tt;
     onward = λ tick s h whole. tt;
   }
 
-  any_requests : (w : World) → AllRequests AnyRequest w
-  any_requests w id f e from to body name mode is reads = tt
+  any_asks : (w : World) → AllAsk AnyRequest AnyCall w
+  any_asks w id f e = record { requests = λ from to body name mode is reads. tt; calls = λ from to body is rpc. tt }
 
   module _ (S : Packet → Type 0) where
     -- Where the client's packets are such, the server's are so too.
     pub servers_run : (w : World) (steps : List Step) → Keeps S (IsServers c) AnySession w → AllByRecursion S (sends_in steps) → Keeps S (IsServers c) AnySession (run c w steps)
-    servers_run w steps h s = keeps_run c (IsServers c) AnySession AnyRequest server_rules S w steps h s (any_requests (run c w steps))
+    servers_run w steps h s = keeps_run c (IsServers c) AnySession AnyRequest AnyCall server_rules S w steps h s (any_asks (run c w steps))
 
     pub servers_got : (w : World) (steps : List Step) → Keeps S (IsServers c) AnySession w → AllByRecursion S (sends_in steps) → AllAllowed c w steps → AllByRecursion (IsServers c) (got_in steps)
-    servers_got w steps h s all = keeps_got c (IsServers c) AnySession AnyRequest server_rules S w steps h s (any_requests (run c w steps)) all
+    servers_got w steps h s all = keeps_got c (IsServers c) AnySession AnyRequest AnyCall server_rules S w steps h s (any_asks (run c w steps)) all
 
   -- Every packet of the server in flight is one that it sends.
   pub sent_by_server : (steps : List Step) (id : ℕ) (f : Flying) → slice_get (run c (start c) steps).flight id ≡ Some f → f.from ≡ Server → IsServers c f.packet

@@ -16,7 +16,8 @@ use Rattle.sd_link.specs.Config.{IsWithin}
 use Rattle.sd_link.specs.Program.{boot_file}
 use Rattle.sd_link.specs.World.{World, Flying, Sender, Client, Server, Session, ServerPart, Replied, silence, sent_by}
 use Rattle.sd_link.specs.Sessions.{tftp_port, is_session_port, tftp_packet, tftp_error, block_packet, present_block, session_in, with_session, sent_again, next_block, new_session, is_octet, is_session_of, asked_for, requested, ended, acknowledged, heard, not_known, heard_by, transferred, tftp_reply}
-use Rattle.sd_link.specs.Reply.{rarp_out, reply, out_of}
+use Rattle.sd_link.specs.RpcReply.{is_rpc_port, rpc_out, rpc_reply}
+use Rattle.sd_link.specs.Reply.{rarp_out, is_heard, reply, out_of}
 use Rattle.sd_link.specs.Steps.{Step, Tick, Send, Serve, Data, End, Get, after, served, resent, run, AllAllowed, goes_to_client}
 use Rattle.sd_link.specs.Parts.{sends_in, got_in}
 use Rattle.sd_link.specs.Requests.{AsksOnlyFor, KeepsOffRpc}
@@ -133,10 +134,12 @@ kept_off_before c w steps me keeps id f to body e = keeps id f to body (stays_in
 abbrev pub IsTftpPort : ℕ → Type 0
 IsTftpPort port = (port ≡ 69) ⊎ IsWithin 4096 8191 port
 
--- P holds of each packet that the server sends and Q of each session, where R holds of who asked and for which name.
-pub record Rules (c : Config) (P : Packet → Type 0) (Q : Session → Type 0) (R : Addr → List ℕ → Type 0) : Type 0 where
+-- P holds of each packet that the server sends and Q of each session, where R holds of who asked and for which name, and O of who
+-- called at which port and with which body.
+pub record Rules (c : Config) (P : Packet → Type 0) (Q : Session → Type 0) (R : Addr → List ℕ → Type 0) (O : Addr → ℕ → List ℕ → Type 0) : Type 0 where
   pub frames : (bytes : List ℕ) → AllByRecursion P (rarp_out c bytes)
   pub errors : (port : ℕ) (to : Addr) (code : ℕ) → IsTftpPort port → code < 2 ^ 16 → P (tftp_packet c port to (Error code []))
+  pub replies : (from : Addr) (port : ℕ) (body : List ℕ) → is_rpc_port port ≡ true → O from port body → AllByRecursion P (rpc_out c from port body)
   pub blocks : (s : Session) → Q s → P (block_packet c s)
   pub first : (part : ServerPart) (tick : ℕ) (from : Addr) (name bytes : List ℕ) → R from name → boot_file c name ≡ Some bytes → Q (new_session part tick from name)
   pub again : (tick : ℕ) (s : Session) → Q s → Q (sent_again tick s)
@@ -146,9 +149,18 @@ pub record Rules (c : Config) (P : Packet → Type 0) (Q : Session → Type 0) (
 abbrev pub Requests : (Addr → List ℕ → Type 0) → Packet → Type 0
 Requests R packet = (from to : Addr) (body name mode : List ℕ) → packet ≡ Udp from to body → reading body ≡ Ok (Rrq name mode) → R from name
 
--- each request in flight is such
-abbrev pub AllRequests : (Addr → List ℕ → Type 0) → World → Type 0
-AllRequests R w = (id : ℕ) (f : Flying) → slice_get w.flight id ≡ Some f → Requests R f.packet
+-- a call of an RPC program is such
+abbrev pub Calls : (Addr → ℕ → List ℕ → Type 0) → Packet → Type 0
+Calls O packet = (from to : Addr) (body : List ℕ) → packet ≡ Udp from to body → is_rpc_port to.port ≡ true → O from to.port body
+
+-- what the packet asks is such
+pub record Asks (R : Addr → List ℕ → Type 0) (O : Addr → ℕ → List ℕ → Type 0) (packet : Packet) : Type 0 where
+  pub requests : Requests R packet
+  pub calls : Calls O packet
+
+-- each packet in flight asks so
+abbrev pub AllAsk : (Addr → List ℕ → Type 0) → (Addr → ℕ → List ℕ → Type 0) → World → Type 0
+AllAsk R O w = (id : ℕ) (f : Flying) → slice_get w.flight id ≡ Some f → Asks R O f.packet
 
 -- what is sent, and the sessions then
 abbrev pub Fine : (Packet → Type 0) → (Session → Type 0) → Replied → Type 0
@@ -166,7 +178,7 @@ FlyingFine S P f = SentFine S P f.from f.packet
 abbrev pub Keeps : (Packet → Type 0) → (Packet → Type 0) → (Session → Type 0) → World → Type 0
 Keeps S P Q w = AllByRecursion (FlyingFine S P) w.flight × AllByRecursion Q w.server.sessions
 
-module _ (c : Config) (P : Packet → Type 0) (Q : Session → Type 0) (R : Addr → List ℕ → Type 0) (k : Rules c P Q R) where
+module _ (c : Config) (P : Packet → Type 0) (Q : Session → Type 0) (R : Addr → List ℕ → Type 0) (O : Addr → ℕ → List ℕ → Type 0) (k : Rules c P Q R O) where
   erred : (part : ServerPart) (port : ℕ) (to : Addr) (code : ℕ) → IsTftpPort port → code < 2 ^ 16 → AllByRecursion Q part.sessions → Fine P Q (record { out = tftp_error c port to code; next = part })
   erred part port to code is lt q = ((k.errors port to code is lt, tt), q)
 
@@ -268,12 +280,16 @@ module _ (c : Config) (P : Packet → Type 0) (Q : Session → Type 0) (R : Addr
       of false = other (is_session_port port) refl
 
   -- what the server does with a packet
-  reply_fine : (tick : ℕ) (part : ServerPart) (packet : Packet) → Requests R packet → AllByRecursion Q part.sessions → Fine P Q (reply c tick part packet)
-  reply_fine tick part (Frame bytes) r q = (k.frames bytes, q)
-  reply_fine tick part (Udp src dst body) r q = of (dst.ip == c.server.ip)
+  reply_fine : (tick : ℕ) (part : ServerPart) (packet : Packet) → Asks R O packet → AllByRecursion Q part.sessions → Fine P Q (reply c tick part packet)
+  reply_fine tick part (Frame bytes) a q = (k.frames bytes, q)
+  reply_fine tick part (Udp src dst body) a q = of (is_heard c dst)
     where
-      of : (b : Bool) → Fine P Q (cond b (tftp_reply c tick part src dst.port body) (silence part))
-      of true = tftp_fine tick part src dst.port body (λ name mode e. r src dst body name mode refl e) q
+      at : (b : Bool) → is_rpc_port dst.port ≡ b → Fine P Q (cond b (rpc_reply c part src dst.port body) (tftp_reply c tick part src dst.port body))
+      at true e = (k.replies src dst.port body e (a.calls src dst body refl e), q)
+      at false e = tftp_fine tick part src dst.port body (λ name mode e. a.requests src dst body name mode refl e) q
+
+      of : (b : Bool) → Fine P Q (cond b (cond (is_rpc_port dst.port) (rpc_reply c part src dst.port body) (tftp_reply c tick part src dst.port body)) (silence part))
+      of true = at (is_rpc_port dst.port) refl
       of false = (tt, q)
 
   -- ---- steps
@@ -283,7 +299,7 @@ module _ (c : Config) (P : Packet → Type 0) (Q : Session → Type 0) (R : Addr
     flown_fine tick [] all = tt
     flown_fine tick (p ∷ ps) all = (all.0, flown_fine tick ps all.1)
 
-    keeps_served : (w : World) (id : ℕ) (o : Option Flying) → slice_get w.flight id ≡ o → AllRequests R w → Keeps S P Q w → Keeps S P Q (served c w o)
+    keeps_served : (w : World) (id : ℕ) (o : Option Flying) → slice_get w.flight id ≡ o → AllAsk R O w → Keeps S P Q w → Keeps S P Q (served c w o)
     keeps_served w id None e r h = h
     keeps_served w id (Some f) e r h =
         let fine = reply_fine w.tick w.server f.packet (r id f e) h.1 in
@@ -301,32 +317,56 @@ module _ (c : Config) (P : Packet → Type 0) (Q : Session → Type 0) (R : Addr
     keeps_ended : (w : World) (number : ℕ) → Keeps S P Q w → Keeps S P Q (after c w (End number))
     keeps_ended w number h = (h.0, all_filter Q (λ s. not (s.number == number)) w.server.sessions h.1)
 
-    requests_before : (w : World) (steps : List Step) → AllRequests R (run c w steps) → AllRequests R w
-    requests_before w steps r id f e = r id f (stays_in_flight c w steps id f e)
-
-    -- It holds after steps in which the client sends such packets.
-    pub keeps_run : (w : World) (steps : List Step) → Keeps S P Q w → AllByRecursion S (sends_in steps) → AllRequests R (run c w steps) → Keeps S P Q (run c w steps)
-    keeps_run w [] h s r = h
-    keeps_run w (Tick ∷ steps) h s r = keeps_run (after c w Tick) steps h s r
-    keeps_run w (Send packet ∷ steps) h s r = keeps_run (after c w (Send packet)) steps (keeps_sent w packet s.0 h) s.1 r
-    keeps_run w (Serve id ∷ steps) h s r = keeps_run (after c w (Serve id)) steps (keeps_served w id (slice_get w.flight id) refl (requests_before w (Serve id ∷ steps) r) h) s r
-    keeps_run w (Data number ∷ steps) h s r = keeps_run (after c w (Data number)) steps (keeps_resent w number (session_in number w.server.sessions) refl h) s r
-    keeps_run w (End number ∷ steps) h s r = keeps_run (after c w (End number)) steps (keeps_ended w number h) s r
-    keeps_run w (Get id packet ∷ steps) h s r = keeps_run w steps h s r
-
     from_server : (from : Sender) (packet : Packet) → goes_to_client c from packet ≡ true → SentFine S P from packet → P packet
     from_server Client packet goes h = absurd (cc)
     from_server Server packet goes h = h
 
+    -- K holds of a world and of the steps to come. It tells what the packets in flight ask, and holds further on.
+    record Knows (K : World → List Step → Type 0) : Type 0 where
+      known : (w : World) (steps : List Step) → K w steps → Keeps S P Q w → AllAsk R O w
+      onward : (w : World) (step : Step) (steps : List Step) → K w (step ∷ steps) → K (after c w step) steps
+
+    module _ (K : World → List Step → Type 0) (n : Knows K) where
+      keeps_on : (w : World) (steps : List Step) → Keeps S P Q w → AllByRecursion S (sends_in steps) → K w steps → Keeps S P Q (run c w steps)
+      keeps_on w [] h s r = h
+      keeps_on w (Tick ∷ steps) h s r = keeps_on (after c w Tick) steps h s (n.onward w Tick steps r)
+      keeps_on w (Send packet ∷ steps) h s r = keeps_on (after c w (Send packet)) steps (keeps_sent w packet s.0 h) s.1 (n.onward w (Send packet) steps r)
+      keeps_on w (Serve id ∷ steps) h s r = keeps_on (after c w (Serve id)) steps (keeps_served w id (slice_get w.flight id) refl (n.known w (Serve id ∷ steps) r h) h) s (n.onward w (Serve id) steps r)
+      keeps_on w (Data number ∷ steps) h s r = keeps_on (after c w (Data number)) steps (keeps_resent w number (session_in number w.server.sessions) refl h) s (n.onward w (Data number) steps r)
+      keeps_on w (End number ∷ steps) h s r = keeps_on (after c w (End number)) steps (keeps_ended w number h) s (n.onward w (End number) steps r)
+      keeps_on w (Get id packet ∷ steps) h s r = keeps_on w steps h s (n.onward w (Get id packet) steps r)
+
+      got_on : (w : World) (steps : List Step) → Keeps S P Q w → AllByRecursion S (sends_in steps) → K w steps → AllAllowed c w steps → AllByRecursion P (got_in steps)
+      got_on w [] h s r all = tt
+      got_on w (Tick ∷ steps) h s r all = got_on (after c w Tick) steps h s (n.onward w Tick steps r) all.1
+      got_on w (Send packet ∷ steps) h s r all = got_on (after c w (Send packet)) steps (keeps_sent w packet s.0 h) s.1 (n.onward w (Send packet) steps r) all.1
+      got_on w (Serve id ∷ steps) h s r all = got_on (after c w (Serve id)) steps (keeps_served w id (slice_get w.flight id) refl (n.known w (Serve id ∷ steps) r h) h) s (n.onward w (Serve id) steps r) all.1
+      got_on w (Data number ∷ steps) h s r all = got_on (after c w (Data number)) steps (keeps_resent w number (session_in number w.server.sessions) refl h) s (n.onward w (Data number) steps r) all.1
+      got_on w (End number ∷ steps) h s r all = got_on (after c w (End number)) steps (keeps_ended w number h) s (n.onward w (End number) steps r) all.1
+      got_on w (Get id packet ∷ steps) h s r all =
+          let a = all.0 in
+          let f = a.0 in
+          (subst P a.3 (from_server f.from f.packet a.2 (all_at (FlyingFine S P) w.flight id f h.0 a.1.sent)), got_on w steps h s (n.onward w (Get id packet) steps r) all.1)
+
+    -- what is asked until the steps' end
+    by_end : Knows (λ w steps. AllAsk R O (run c w steps))
+    by_end = record { known = λ w steps r h id f e. r id f (stays_in_flight c w steps id f e); onward = λ w step steps r. r }
+
+    -- It holds after steps in which the client sends such packets.
+    pub keeps_run : (w : World) (steps : List Step) → Keeps S P Q w → AllByRecursion S (sends_in steps) → AllAsk R O (run c w steps) → Keeps S P Q (run c w steps)
+    keeps_run w steps h s r = keeps_on (λ v more. AllAsk R O (run c v more)) by_end w steps h s r
+
     -- And what the client gets in them is such.
-    pub keeps_got : (w : World) (steps : List Step) → Keeps S P Q w → AllByRecursion S (sends_in steps) → AllRequests R (run c w steps) → AllAllowed c w steps → AllByRecursion P (got_in steps)
-    keeps_got w [] h s r all = tt
-    keeps_got w (Tick ∷ steps) h s r all = keeps_got (after c w Tick) steps h s r all.1
-    keeps_got w (Send packet ∷ steps) h s r all = keeps_got (after c w (Send packet)) steps (keeps_sent w packet s.0 h) s.1 r all.1
-    keeps_got w (Serve id ∷ steps) h s r all = keeps_got (after c w (Serve id)) steps (keeps_served w id (slice_get w.flight id) refl (requests_before w (Serve id ∷ steps) r) h) s r all.1
-    keeps_got w (Data number ∷ steps) h s r all = keeps_got (after c w (Data number)) steps (keeps_resent w number (session_in number w.server.sessions) refl h) s r all.1
-    keeps_got w (End number ∷ steps) h s r all = keeps_got (after c w (End number)) steps (keeps_ended w number h) s r all.1
-    keeps_got w (Get id packet ∷ steps) h s r all =
-        let a = all.0 in
-        let f = a.0 in
-        (subst P a.3 (from_server f.from f.packet a.2 (all_at (FlyingFine S P) w.flight id f h.0 a.1.sent)), keeps_got w steps h s r all.1)
+    pub keeps_got : (w : World) (steps : List Step) → Keeps S P Q w → AllByRecursion S (sends_in steps) → AllAsk R O (run c w steps) → AllAllowed c w steps → AllByRecursion P (got_in steps)
+    keeps_got w steps h s r all = got_on (λ v more. AllAsk R O (run c v more)) by_end w steps h s r all
+
+    -- The same where the packets themselves tell what they ask.
+    module _ (tells : (from : Sender) (packet : Packet) → SentFine S P from packet → Asks R O packet) where
+      by_packets : Knows (λ w steps. Unit {0})
+      by_packets = record { known = λ w steps r h id f e. tells f.from f.packet (all_at (FlyingFine S P) w.flight id f h.0 e); onward = λ w step steps r. tt }
+
+      pub told_run : (w : World) (steps : List Step) → Keeps S P Q w → AllByRecursion S (sends_in steps) → Keeps S P Q (run c w steps)
+      told_run w steps h s = keeps_on (λ v more. Unit {0}) by_packets w steps h s tt
+
+      pub told_got : (w : World) (steps : List Step) → Keeps S P Q w → AllByRecursion S (sends_in steps) → AllAllowed c w steps → AllByRecursion P (got_in steps)
+      told_got w steps h s all = got_on (λ v more. Unit {0}) by_packets w steps h s tt all

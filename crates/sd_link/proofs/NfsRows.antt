@@ -1,19 +1,17 @@
 -- The definitions of NFS on an example: the files `/a/b` and `/vmunix`, the link `/a-b`, and a swap file of 16,384 bytes.
 use Rattle.std.specs.Prelude.{◌≡◌, ℕ, true, false, List, [], ◌∷◌, codes, replicate, ◌-◌, Some, None, map}
 use mathlib.Core.Path.{refl}
-use Rattle.sd_outside.specs.declared.fhandle.FHandle.{FHandle}
 use Rattle.sd_nfs_msg.specs.declared.message.NfsArgs.{NfsArgs}
 use Rattle.sd_nfs_msg.specs.declared.message.NfsArgs.TheVariants as asks
 use Rattle.sd_nfs_msg.specs.declared.message.NfsResult.TheVariants as results
 use Rattle.sd_nfs_msg.specs.declared.parts.DirEntry.{DirEntry}
 use Rattle.sd_link.specs.declared.node.Node.{Node}
 use Rattle.sd_link.specs.declared.node.Standing.TheVariants as standing
-use Rattle.sd_link.specs.World.{Change}
 use Rattle.sd_link.specs.declared.config.RootItem.TheVariants as items
 use Rattle.sd_link.specs.Files.{Exported, IsBefore, numbered, handle, named_by}
 use Rattle.sd_link.specs.Names.{children, parent, called, entries, listed, window}
 use Rattle.sd_link.specs.Decisions.{attributes, swap_attributes, swap_read, swap_write, read, lookup, readdir, all_blocks, decided, refused, nfs_result}
-use Rattle.sd_link.specs.NfsReply.{nfs_change, uses_swap, changed}
+use Rattle.sd_link.specs.NfsReply.{nfs_change, uses_swap}
 
 abbrev root_nodes : List Node
 root_nodes =

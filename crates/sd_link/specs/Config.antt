@@ -2,6 +2,9 @@
 use Rattle.std.specs.Prelude.{◌≡◌, ◌≢◌, ℕ, ◌+◌, ◌<◌, ◌≤◌, ◌^◌, ◌⊎◌, List, [], ◌∷◌, ◌++◌, length, codes, Bool, ◌||◌, ◌&&◌, nat_le, ◌==◌, IfSome}
 use Rattle.std.specs.List.{All, AllPass, AllPairs, sum_by, slice_split}
 use Rattle.sd_outside.specs.Bytes.{IsMac}
+use Rattle.sd_bootparams.specs.declared.book.Host.{Host}
+use Rattle.sd_bootparams.specs.File.{nothing, parts, IsFaultless}
+use Rattle.sd_bootparams.specs.LineByLine.{file_of, AreLines}
 use Rattle.sd_link.specs.declared.config.Machine.{Machine}
 use Rattle.sd_link.specs.declared.config.BootFile.{BootFile}
 use Rattle.sd_link.specs.declared.config.RootItem.{RootItem}
@@ -39,6 +42,29 @@ pub record IsMachine (m : Machine) : Type 0 where
   pub mac : IsMac m.mac
   pub ip : IsWithin 1 0xffff_fffe m.ip
   pub name : IsName m.name
+
+-- ---- further machines
+
+-- a machine of a host line, which may have any address
+pub record IsHost (host : Host) : Type 0 where
+  pub name : IsName host.name
+  pub ip : host.ip < 2 ^ 32
+
+-- at most 16, whose names differ from each other and from those of the two machines
+pub record AreHosts (server client : List ℕ) (hosts : List Host) : Type 0 where
+  pub few : length hosts ≤ 16
+  pub each : All IsHost hosts
+  pub differ : AllPairs (λ (a b : Host). a.name ≢ b.name) hosts
+  pub not_server : All (λ (host : Host). host.name ≢ server) hosts
+  pub not_client : All (λ (host : Host). host.name ≢ client) hosts
+
+-- at most 256 lines, each with its line feed, that are a bootparams file
+pub record AreParams (text : List ℕ) : Type 0 where
+  pub texts : List (List ℕ)
+  pub is : text ≡ file_of texts
+  pub lines : AreLines texts
+  pub few : length texts ≤ 256
+  pub faultless : IsFaultless nothing (parts text)
 
 -- ---- boot files
 
@@ -139,7 +165,9 @@ pub record IsConfig (c : Config) : Type 0 where
   pub ips : c.server.ip ≢ c.client.ip
   pub names : c.server.name ≢ c.client.name
   pub arch : IsArch c.arch
+  pub hosts : AreHosts c.server.name c.client.name c.hosts
   pub tftp : AreBootFiles c.tftp
+  pub params : AreParams c.params
   pub root : IfSome c.root IsPath
   pub items : AreRootItems c.items
   pub kernel : IsPath c.kernel

@@ -3,6 +3,8 @@ pub mod Program
 pub mod Events
 pub mod World
 pub mod Sessions
+pub mod RpcCalls
+pub mod RpcReply
 pub mod Reply
 pub mod Steps
 pub mod Requests

@@ -1,5 +1,5 @@
 -- What was ever sent from one address and port.
-use Rattle.std.specs.Prelude.{◌≡◌, ◌⊎◌, ℕ, List, Option, Some, Ok, slice_get}
+use Rattle.std.specs.Prelude.{◌≡◌, ◌⊎◌, ℕ, List, Some, Ok, slice_get}
 use Rattle.sd_outside.specs.declared.packet.Addr.{Addr}
 use Rattle.sd_outside.specs.declared.packet.Packet.TheVariants.{Udp}
 use Rattle.sd_tftp.specs.declared.packet.TftpPacket.TheVariants.{Rrq}

@@ -2,6 +2,7 @@
 ghost use Rattle.std.specs.Prelude.{IfOk};
 ghost use Rattle.sd_link.specs.Config.{IsConfig, IsFor, IsClientConfig};
 
+use sd_bootparams::Hosts;
 use sd_outside::{ByteList, ListOf, Mac, NoMemory};
 use std::alloc::Global;
 
@@ -70,8 +71,12 @@ pub struct Config {
     pub router: u32,
     /// The name of the client's architecture, which ends its boot program's name; empty where there is none.
     pub arch: ByteList,
+    /// Further machines, at most 16.
+    pub hosts: Hosts,
     /// The files that TFTP serves, at most 16.
     pub tftp: BootFileList,
+    /// The bootparams file, at most 256 lines.
+    pub params: ByteList,
     /// The path under which the root file system is exported, where it is.
     pub root: Option<ByteList>,
     /// The files and links of the root export, at most 256.

@@ -23,8 +23,14 @@ pub enum Stage {
     Rarp,
     /// Fetching its boot program (RFC 1350).
     Tftp,
-    /// Asking for its own name.
+    /// Asking for its own name (bootparams).
     Whoami,
+    /// Asking where its root is (bootparams).
+    Getfile,
+    /// Asking at which port a program is (RFC 1057, appendix A).
+    Getport,
+    /// Asking for a handle of its root (RFC 1094, appendix A).
+    Mnt,
     /// Letting time pass.
     Wait,
 }

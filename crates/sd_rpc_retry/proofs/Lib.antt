@@ -11,3 +11,4 @@ pub mod ShortArgs
 pub mod Known
 pub mod MatchLaws
 pub mod MatchLaw
+pub mod Fitting

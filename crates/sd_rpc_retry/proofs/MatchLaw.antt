@@ -27,7 +27,9 @@ use Rattle.sd_rpc_retry.specs.declared.calling.Ask.{Ask}
 use Rattle.sd_rpc_retry.specs.declared.calling.Ask.TheVariants as ask
 use Rattle.sd_rpc_retry.specs.declared.calling.Answer.{Answer}
 use Rattle.sd_rpc_retry.specs.declared.calling.Answer.TheVariants as answer
-use Rattle.sd_rpc_retry.specs.Calling.{spelled, Said, Verdict, is_everyone, is_relayed, pmap_port, comes_from, is_at, and_then, address_in, port_in, whoami_in, getfile_in, relayed_in, bootparams_says, answer_in, verdict_of, verdict_in, reply_says, message_says}
+use Rattle.sd_link.specs.RpcCalls.{spelled}
+use Rattle.sd_link.specs.RpcReply.{pmap_port, address_in}
+use Rattle.sd_rpc_retry.specs.Calling.{Said, Verdict, is_everyone, is_relayed, comes_from, is_at, and_then, port_in, whoami_in, getfile_in, relayed_in, bootparams_says, answer_in, verdict_of, verdict_in, reply_says, message_says}
 use Rattle.sd_rpc_retry.specs.Matches.{TellsResult, Tells, Decides, MayReply, Matches, CarriesBytes, VerdictIsMatch}
 use Rattle.sd_rpc_retry.proofs.Known.{spelled_some}
 use Rattle.sd_rpc_retry.proofs.MatchLaws.{reads_of, shape_of, port_shape, relayed_shape, whoami_shape, getfile_shape, outcome_of}
@@ -57,18 +59,18 @@ if_so : {A : Type 0} (t : Bool) (x y : A) → t ≡ true → cond t x y ≡ x
 if_so true x y h = refl
 if_so false x y h = absurd cc
 
-only_if : {A : Type 0} (t : Bool) (x : Option A) (y : A) → cond t x None ≡ Some y → (t ≡ true) × (x ≡ Some y)
+pub only_if : {A : Type 0} (t : Bool) (x : Option A) (y : A) → cond t x None ≡ Some y → (t ≡ true) × (x ≡ Some y)
 only_if true x y h = (refl, h)
 only_if false x y h = absurd cc
 
-some_is : {A : Type 0} (x y : A) → ◌≡◌ {A = Option A} (Some x) (Some y) → x ≡ y
+pub some_is : {A : Type 0} (x y : A) → ◌≡◌ {A = Option A} (Some x) (Some y) → x ≡ y
 some_is x y h = cc
 
-follows : {A B : Type 0} (o : Option A) (f : A → Option B) (y : B) → and_then o f ≡ Some y → (x : A) × (o ≡ Some x) × (f x ≡ Some y)
+pub follows : {A B : Type 0} (o : Option A) (f : A → Option B) (y : B) → and_then o f ≡ Some y → (x : A) × (o ≡ Some x) × (f x ≡ Some y)
 follows None f y h = absurd cc
 follows (Some x) f y h = (x, refl, h)
 
-mapped : {A B : Type 0} (o : Option A) (f : A → B) (y : B) → option_map f o ≡ Some y → (x : A) × (o ≡ Some x) × (f x ≡ y)
+pub mapped : {A B : Type 0} (o : Option A) (f : A → B) (y : B) → option_map f o ≡ Some y → (x : A) × (o ≡ Some x) × (f x ≡ y)
 mapped None f y h = absurd cc
 mapped (Some x) f y h = (x, refl, some_is (f x) y h)
 

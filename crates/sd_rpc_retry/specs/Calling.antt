@@ -1,14 +1,12 @@
 -- What is sent for a call of a procedure, and what a datagram tells its caller (RFC 1057; bootparam_prot.x of SunOS). That this is
 -- what the grammars say of replies is `VerdictIsMatch` of Matches.antt.
-use Rattle.std.specs.Prelude.{ℕ, ◌+◌, ◌*◌, ◌-◌, ◌^◌, ◌≤◌, ◌==◌, ◌&&◌, ◌||◌, Bool, if◌then◌else◌, List, [], length, Option, Some, None, Result, Ok, Err}
+use Rattle.std.specs.Prelude.{ℕ, ◌+◌, ◌-◌, ◌^◌, ◌≤◌, ◌==◌, ◌&&◌, ◌||◌, Bool, if◌then◌else◌, List, [], length, Option, Some, None, Result, Ok, Err}
 use Rattle.std.specs.Option.{option_map}
 use Rattle.sd_outside.specs.declared.packet.Addr.{Addr}
 use Rattle.sd_outside.specs.declared.packet.Packet.{Packet}
 use Rattle.sd_outside.specs.declared.packet.Packet.TheVariants.{Frame, Udp}
-use Rattle.sd_xdr.specs.Kind.{whole, Kind, Value, number_of, bytes_of, first, second}
+use Rattle.sd_xdr.specs.Kind.{Value, number_of, bytes_of, first, second}
 use Rattle.sd_xdr.specs.Grammar.{writes}
-use Rattle.sd_xdr.specs.Reading.{Read, start, reading}
-use Rattle.sd_rpc_msg.specs.declared.message.OpaqueAuth.{OpaqueAuth}
 use Rattle.sd_rpc_msg.specs.declared.message.Call.{Call}
 use Rattle.sd_rpc_msg.specs.declared.message.Message.TheVariants.{Asked}
 use Rattle.sd_rpc_msg.specs.Layout.{message, message_value}
@@ -18,6 +16,8 @@ use Rattle.sd_portmap.specs.Layout as portmap
 use Rattle.sd_bootparams.specs.declared.message.BpArgs.{BpArgs}
 use Rattle.sd_bootparams.specs.declared.message.BpArgs.TheVariants as bp
 use Rattle.sd_bootparams.specs.Layout as bootparams
+use Rattle.sd_link.specs.RpcCalls.{spelled, auth_null}
+use Rattle.sd_link.specs.RpcReply.{pmap_port, address_in}
 use Rattle.sd_link.specs.Tries.{Hearing}
 use Rattle.sd_rpc_retry.specs.declared.calling.Ask.{Ask}
 use Rattle.sd_rpc_retry.specs.declared.calling.Ask.TheVariants as ask
@@ -26,10 +26,6 @@ use Rattle.sd_rpc_retry.specs.declared.calling.Answer.TheVariants as answer
 use Rattle.sd_rpc_retry.specs.declared.calling.Caller.{Caller}
 
 -- ---- where calls go
-
--- the portmapper's port (RFC 1057, appendix A)
-abbrev pub pmap_port : ℕ
-pmap_port = 111
 
 -- 255.255.255.255 is everyone on this network (RFC 919, section 7)
 abbrev pub is_everyone : Addr → Bool
@@ -40,10 +36,6 @@ abbrev pub is_relayed : Addr → Bool
 is_relayed dst = dst.port == pmap_port || is_everyone dst
 
 -- ---- the call
-
--- AUTH_NULL (RFC 1057, section 9.1)
-abbrev pub auth_null : OpaqueAuth
-auth_null = record { flavor = 0; body = [] }
 
 -- call_body (RFC 1057, section 8): a procedure of a program's version, with its arguments
 abbrev pub call_of : ℕ → ℕ → ℕ → ℕ → List ℕ → Call
@@ -81,14 +73,6 @@ request caller dst asked = Udp (home caller) dst (writes message (message_value 
 
 -- ---- the reply
 
--- the value of a kind that the bytes, all of them, spell, if they spell one
-abbrev pub value_read : Read → Option Value
-value_read (Ok read) = Some read.0
-value_read (Err why) = None
-
-abbrev pub spelled : Kind whole → List ℕ → Option Value
-spelled K bs = value_read (reading K (start bs))
-
 -- What a reply says: the results, or by which number the call was refused.
 abbrev pub Said : Type 0
 Said = Result (List ℕ) ℕ
@@ -121,15 +105,6 @@ message_says xid v =
 abbrev pub and_then : {A B : Type 0} → Option A → (A → Option B) → Option B
 and_then None f = None
 and_then (Some x) f = f x
-
--- an address by its four bytes: bp_address is 1, net, host, lh, impno
-abbrev pub address_in : Value → ℕ
-address_in v =
-    let net = second v in
-    let host = second net in
-    let lh = second host in
-    let impno = second lh in
-    ((number_of (first net) * 256 + number_of (first host)) * 256 + number_of (first lh)) * 256 + number_of impno
 
 -- unsigned int: the port, behind the place of the result
 abbrev pub port_in : Option Value → Option Answer

@@ -19,7 +19,8 @@ use Rattle.sd_rpc_retry.specs.declared.calling.Ask.{Ask}
 use Rattle.sd_rpc_retry.specs.declared.calling.Ask.TheVariants as ask
 use Rattle.sd_rpc_retry.specs.declared.calling.Answer.{Answer}
 use Rattle.sd_rpc_retry.specs.declared.calling.Answer.TheVariants as answer
-use Rattle.sd_rpc_retry.specs.Calling.{Verdict, is_everyone, is_relayed, pmap_port, verdict_in}
+use Rattle.sd_link.specs.RpcReply.{pmap_port}
+use Rattle.sd_rpc_retry.specs.Calling.{Verdict, is_everyone, is_relayed, verdict_in}
 
 -- a result of bootparams, alone or in what a portmapper answers for PMAPPROC_CALLIT
 abbrev pub TellsResult : Bool → ℕ → List ℕ → BpResult → Type 0

@@ -7,7 +7,7 @@ ghost use Rattle.sd_rpc_retry.specs.Lasting.{Lasts, most_asking_ticks};
 ghost use Rattle.sd_rpc_retry.specs.Asking.{IsAskedFault};
 ghost use Rattle.sd_rpc_retry.specs.Sending.{HandedFor, WaitedFor};
 ghost use Rattle.sd_rpc_retry.specs.Calling.{AskFits};
-ghost use Rattle.sd_rpc_retry.specs.Calls.{asked_as, tally_of, CameOf, WasSent, IsTold};
+ghost use Rattle.sd_rpc_retry.specs.Calls.{asked_as, tally_of, CameOf, WasSent, IsTold, IsAnswerTo, IsAnsweredBy};
 
 use crate::asking::{Asked, Tally, ask_counting};
 use crate::reply::ReplyListener;
@@ -92,7 +92,8 @@ pub struct Caller {
 
 /// The answer that came of asking.
 fn answer_of(asked: Result<Asked<Result<Answer, u32>>, NoMemory>) -> Result<Answer, CallError>
-    ensures { asked_as result ≡ asked }
+    ensures as_asked { asked_as result ≡ asked }
+    ensures answers { (what : Ask) → IfOk asked (IsAnsweredBy what) → IfOk result (IsAnswerTo what) }
 {
     match asked {
         Ok(Asked::Answer(Ok(answer))) => Ok(answer),
@@ -120,6 +121,7 @@ impl Caller {
         ensures told { IfOk result (λ came. Moves (L.told link.old) (L.told link.new) (CameOf self.now dst asked.now came)) }
         ensures tallied { Moves (L.told link.old) (L.told link.new) (WasSent self.now dst asked.now tally.new result) }
         ensures found { IfOk result (IsTold self.now dst asked.now) }
+        ensures answers { IfOk result (IsAnsweredBy asked.now) }
         ensures most { tally.new.sends ≤ self.now.tries }
         ensures began { 0 < tally.new.sends → L.clock link.old ≤ tally.new.last }
         ensures ended { 0 < tally.new.sends → tally.new.last ≤ L.clock link.new }
@@ -164,6 +166,8 @@ impl Caller {
         ensures most { result.sends ≤ self.old.tries }
         // Over every link an answer and a refusal are what some packet tells.
         ensures found { IfOk (asked_as result.answer) (IsTold self.old dst ask.now) }
+        // An answer is of the kind that was asked for, and its texts are within their limits.
+        ensures answers { IfOk result.answer (IsAnswerTo ask.now) }
         // They need a packet, a flood its packets, and a timeout the whole time.
         ensures handed { IfOk (asked_as result.answer) (λ came. HandedFor came (L.handed link.old) (L.handed link.new)) }
         ensures waited { IfOk (asked_as result.answer) (λ came. WaitedFor (self.old.tries * self.old.wait) came (L.clock link.old) (L.clock link.new)) }

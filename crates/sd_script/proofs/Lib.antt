@@ -17,5 +17,7 @@ pub mod OneConfigLine
 pub mod OneLine
 pub mod OneScript
 pub mod ConfigLemmas
+pub mod ParamsLemmas
+pub mod RestLemmas
 pub mod RuleLemmas
 pub mod IdLemmas

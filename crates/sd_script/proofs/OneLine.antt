@@ -17,7 +17,7 @@ use Rattle.sd_script.proofs.NumberLemmas.{one_number, same_number}
 use Rattle.sd_script.proofs.MacLemmas.{one_ip, one_machine}
 use Rattle.sd_script.proofs.DelayLemmas.{zip-at, no_number}
 use Rattle.sd_script.proofs.JudgeLemmas.{not_in_heading}
-use Rattle.sd_script.proofs.OneConfigLine.{arch_one, tftp_one, root_one, file_one, link_one, kernel_one, swap_one}
+use Rattle.sd_script.proofs.OneConfigLine.{arch_one, host_one, params_one, tftp_one, root_one, file_one, link_one, kernel_one, swap_one}
 
 -- equal fields have equal values
 
@@ -111,6 +111,8 @@ word_one words.Pages old args a b x y = pages_one old args a b x y
 word_one words.Server old args a b x y = server_one old args a b x y
 word_one words.Client old args a b x y = client_one old args a b x y
 word_one words.Arch old args a b x y = arch_one old args a b x y
+word_one words.Host old args a b x y = host_one old args a b x y
+word_one words.Params old args a b x y = params_one old args a b x y
 word_one words.Tftp old args a b x y = tftp_one old args a b x y
 word_one words.Root old args a b x y = root_one old args a b x y
 word_one words.File old args a b x y = file_one old args a b x y
@@ -127,9 +129,9 @@ abbrev word_at : Text → Word
 word_at text =
     cond (bytes_eq text (codes "life")) words.Life (cond (bytes_eq text (codes "tries")) words.Tries (cond (bytes_eq text (codes "wait")) words.Wait
     (cond (bytes_eq text (codes "pages")) words.Pages (cond (bytes_eq text (codes "server")) words.Server (cond (bytes_eq text (codes "client")) words.Client
-    (cond (bytes_eq text (codes "arch")) words.Arch (cond (bytes_eq text (codes "tftp")) words.Tftp (cond (bytes_eq text (codes "root")) words.Root
+    (cond (bytes_eq text (codes "arch")) words.Arch (cond (bytes_eq text (codes "host")) words.Host (cond (bytes_eq text (codes "params")) words.Params (cond (bytes_eq text (codes "tftp")) words.Tftp (cond (bytes_eq text (codes "root")) words.Root
     (cond (bytes_eq text (codes "file")) words.File (cond (bytes_eq text (codes "link")) words.Link (cond (bytes_eq text (codes "kernel")) words.Kernel
-    (cond (bytes_eq text (codes "swap")) words.Swap (cond (bytes_eq text (codes "fate")) words.Fate (cond (bytes_eq text (codes "addr")) words.Addr words.Boot))))))))))))))
+    (cond (bytes_eq text (codes "swap")) words.Swap (cond (bytes_eq text (codes "fate")) words.Fate (cond (bytes_eq text (codes "addr")) words.Addr words.Boot))))))))))))))))
 
 word_back : (word : Word) → word_at (spelling word) ≡ word
 word_back words.Life = refl
@@ -139,6 +141,8 @@ word_back words.Pages = refl
 word_back words.Server = refl
 word_back words.Client = refl
 word_back words.Arch = refl
+word_back words.Host = refl
+word_back words.Params = refl
 word_back words.Tftp = refl
 word_back words.Root = refl
 word_back words.File = refl
@@ -161,6 +165,8 @@ word_starts words.Pages = (omega arith, λ e. omega (arith, e))
 word_starts words.Server = (omega arith, λ e. omega (arith, e))
 word_starts words.Client = (omega arith, λ e. omega (arith, e))
 word_starts words.Arch = (omega arith, λ e. omega (arith, e))
+word_starts words.Host = (omega arith, λ e. omega (arith, e))
+word_starts words.Params = (omega arith, λ e. omega (arith, e))
 word_starts words.Tftp = (omega arith, λ e. omega (arith, e))
 word_starts words.Root = (omega arith, λ e. omega (arith, e))
 word_starts words.File = (omega arith, λ e. omega (arith, e))

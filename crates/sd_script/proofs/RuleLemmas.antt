@@ -1,6 +1,6 @@
 -- Lines in the grammar make a script that keeps the rules.
-use Rattle.std.proofs.Common.{◌≡◌, ℕ, ◌+◌, ◌-◌, ◌<◌, ◌≤◌, ◌^◌, List, [], ◌∷◌, ◌++◌, Some, length, refl, sym, ap, subst, inl, inr, arith, length-append}
-use Rattle.std.specs.List.{All, AllZip}
+use Rattle.std.proofs.Common.{◌≡◌, ℕ, ◌+◌, ◌-◌, ◌<◌, ◌≤◌, ◌^◌, List, [], ◌∷◌, ◌++◌, Some, length, refl, sym, ◌∙◌, ap, subst, inl, inr, arith, length-append}
+use Rattle.std.specs.List.{All, AllByRecursion, AllZip}
 use Rattle.std.proofs.lemmas.List.Elements.{All-nil, All-cons, All-append}
 use Rattle.sd_link.specs.declared.config.Config.{Config}
 use Rattle.sd_link.specs.declared.config.Machine.{Machine}
@@ -23,9 +23,10 @@ use Rattle.sd_script.specs.declared.draft.Word.{Word}
 use Rattle.sd_script.specs.declared.draft.Word.TheVariants as words
 use Rattle.sd_script.specs.Limits.{command_limit}
 use Rattle.sd_script.specs.Texts.{IsNumber}
-use Rattle.sd_script.specs.Lines.{IsMachine, LifeLine, TriesLine, WaitLine, PagesLine, ServerLine, ClientLine, ArchLine, TftpLine, RootLine, FileLine, LinkLine, KernelLine, SwapFileLine, HasRoom, MayAddBootFile, MayAddItem, MayBeEvent, MayBeCommand, IsDelays, FateLine, AddsCommand, Differ, with_config, with_boot_file, with_item, with_fate, with_command}
-use Rattle.sd_script.specs.Grammar.{WordLine, IsLine, Leads, without_feed, blank, kernel_or_usual, script_of, IsScript}
+use Rattle.sd_script.specs.Lines.{IsMachine, LifeLine, TriesLine, WaitLine, PagesLine, ServerLine, ClientLine, ArchLine, HostLine, ParamsLine, TftpLine, RootLine, FileLine, LinkLine, KernelLine, SwapFileLine, HasRoom, MayAddHost, with_host, with_params, MayAddBootFile, MayAddItem, MayBeEvent, MayBeCommand, IsDelays, FateLine, AddsCommand, Differ, with_config, with_boot_file, with_item, with_fate, with_command}
+use Rattle.sd_script.specs.Grammar.{spelling, WordLine, IsLine, Leads, without_feed, blank, kernel_or_usual, script_of, IsScript}
 use Rattle.sd_script.specs.Rules.{IsCommand, KeepsRules}
+use Rattle.sd_script.proofs.ParamsLemmas.{OneLine, parts_one, rest_one_line, before_one, no_hosts_are, one_more_host, ParamsSoFar, no_params, one_more_line, params_are}
 use Rattle.sd_script.proofs.ConfigLemmas.{KeepsLines, size_of, no_lines, usual_or_named, sum_with_boot_file, sum_with_item, arch_lined, tftp_lined, root_lined, item_lined, kernel_lined, swap_lined}
 
 -- how many lines of the heading stand before a section
@@ -58,6 +59,9 @@ Headed n c = IsHeaded n c.life c.tries c.wait c.pages c.server c.client c.domain
 -- the rules so far
 record KeepsSoFar (d : Draft) : Type 0 where
   headed : Headed (stage d.section) d.config
+  hosts : rules.AreHosts d.config.server.name d.config.client.name d.config.hosts
+  no_hosts : stage d.section < 6 → d.config.hosts ≡ []
+  params : ParamsSoFar d.config.params d.params_lines d.params
   lines : KeepsLines d.config
   sum : d.bytes ≡ bytes_of d.config
   early : stage d.section < 6 → d.fates ≡ []
@@ -79,9 +83,12 @@ none : {X : Type 0} (P : X → Type 0) (xs : List X) → xs ≡ [] → All P xs
 none P xs e = subst (λ l. All P l) (sym e) (All-nil P)
 
 -- the draft with another configuration, before the heading's end
-heads : (old : Draft) (section : Section) (c : Config) → KeepsSoFar old → stage old.section < 6 → Headed (stage section) c → KeepsLines c → old.bytes ≡ bytes_of c → KeepsSoFar (with_config old section c)
-heads old section c k early h lines sum = record {
+heads : (old : Draft) (section : Section) (c : Config) → c.hosts ≡ old.config.hosts → c.params ≡ old.config.params → KeepsSoFar old → stage old.section < 6 → Headed (stage section) c → KeepsLines c → old.bytes ≡ bytes_of c → KeepsSoFar (with_config old section c)
+heads old section c same_hosts same_params k early h lines sum = record {
   headed = h;
+  hosts = no_hosts_are c.server.name c.client.name c.hosts (same_hosts ∙ k.no_hosts early);
+  no_hosts = λ _. same_hosts ∙ k.no_hosts early;
+  params = subst (λ (t : Text). ParamsSoFar t old.params_lines old.params) (sym same_params) k.params;
   lines = lines;
   sum = sum;
   early = λ _. k.early early;
@@ -98,7 +105,7 @@ early_at : (old : Draft) (section : Section) → old.section ≡ section → sta
 early_at old section at h = subst (λ s. stage s < 6) (sym at) h
 
 life_kept : (old : Draft) (args : List Text) (new : Draft) → LifeLine old args new → KeepsSoFar old → KeepsSoFar new
-life_kept old args new l k = subst KeepsSoFar (sym l.means) (heads old sections.Tries (record old.config { life = l.life }) k (early_at old sections.Life l.place (omega arith)) record {
+life_kept old args new l k = subst KeepsSoFar (sym l.means) (heads old sections.Tries (record old.config { life = l.life }) refl refl k (early_at old sections.Life l.place (omega arith)) record {
   life = λ _. within 2 10000 l.number;
   tries = λ h. absurd (omega (arith, h));
   wait = λ h. absurd (omega (arith, h));
@@ -113,7 +120,7 @@ life_kept old args new l k = subst KeepsSoFar (sym l.means) (heads old sections.
 tries_kept : (old : Draft) (args : List Text) (new : Draft) → TriesLine old args new → KeepsSoFar old → KeepsSoFar new
 tries_kept old args new l k =
     let c = came old sections.Tries l.place k in
-    subst KeepsSoFar (sym l.means) (heads old sections.Wait (record old.config { tries = l.tries }) k (early_at old sections.Tries l.place (omega arith)) record {
+    subst KeepsSoFar (sym l.means) (heads old sections.Wait (record old.config { tries = l.tries }) refl refl k (early_at old sections.Tries l.place (omega arith)) record {
       life = λ _. c.life (omega arith);
       tries = λ _. within 1 64 l.number;
       wait = λ h. absurd (omega (arith, h));
@@ -128,7 +135,7 @@ tries_kept old args new l k =
 wait_kept : (old : Draft) (args : List Text) (new : Draft) → WaitLine old args new → KeepsSoFar old → KeepsSoFar new
 wait_kept old args new l k =
     let c = came old sections.Wait l.place k in
-    subst KeepsSoFar (sym l.means) (heads old sections.Pages (record old.config { wait = l.wait }) k (early_at old sections.Wait l.place (omega arith)) record {
+    subst KeepsSoFar (sym l.means) (heads old sections.Pages (record old.config { wait = l.wait }) refl refl k (early_at old sections.Wait l.place (omega arith)) record {
       life = λ _. c.life (omega arith);
       tries = λ _. c.tries (omega arith);
       wait = λ _. within 1 1000 l.number;
@@ -143,7 +150,7 @@ wait_kept old args new l k =
 pages_kept : (old : Draft) (args : List Text) (new : Draft) → PagesLine old args new → KeepsSoFar old → KeepsSoFar new
 pages_kept old args new l k =
     let c = came old sections.Pages l.place k in
-    subst KeepsSoFar (sym l.means) (heads old sections.Server (record old.config { pages = l.pages }) k (early_at old sections.Pages l.place (omega arith)) record {
+    subst KeepsSoFar (sym l.means) (heads old sections.Server (record old.config { pages = l.pages }) refl refl k (early_at old sections.Pages l.place (omega arith)) record {
       life = λ _. c.life (omega arith);
       tries = λ _. c.tries (omega arith);
       wait = λ _. c.wait (omega arith);
@@ -158,7 +165,7 @@ pages_kept old args new l k =
 server_kept : (old : Draft) (args : List Text) (new : Draft) → ServerLine old args new → KeepsSoFar old → KeepsSoFar new
 server_kept old args new l k =
     let c = came old sections.Server l.place k in
-    subst KeepsSoFar (sym l.means) (heads old sections.Client (record old.config { server = l.server }) k (early_at old sections.Server l.place (omega arith)) record {
+    subst KeepsSoFar (sym l.means) (heads old sections.Client (record old.config { server = l.server }) refl refl k (early_at old sections.Server l.place (omega arith)) record {
       life = λ _. c.life (omega arith);
       tries = λ _. c.tries (omega arith);
       wait = λ _. c.wait (omega arith);
@@ -173,7 +180,7 @@ server_kept old args new l k =
 client_kept : (old : Draft) (args : List Text) (new : Draft) → ClientLine old args new → KeepsSoFar old → KeepsSoFar new
 client_kept old args new l k =
     let c = came old sections.Client l.place k in
-    subst KeepsSoFar (sym l.means) (heads old sections.Config (record old.config { client = l.client; domain = l.domain; router = l.router }) k (early_at old sections.Client l.place (omega arith)) record {
+    subst KeepsSoFar (sym l.means) (heads old sections.Config (record old.config { client = l.client; domain = l.domain; router = l.router }) refl refl k (early_at old sections.Client l.place (omega arith)) record {
       life = λ _. c.life (omega arith);
       tries = λ _. c.tries (omega arith);
       wait = λ _. c.wait (omega arith);
@@ -186,9 +193,13 @@ client_kept old args new l k =
     } k.lines k.sum)
 
 -- the draft with another configuration, after the heading
-lined : (old : Draft) (c : Config) → KeepsSoFar old → Headed 6 c → All (IsFate c.life) old.fates → KeepsLines c → old.bytes ≡ bytes_of c → KeepsSoFar (with_config old sections.Config c)
-lined old c k h fates lines sum = record {
+lined : (old : Draft) (c : Config) → KeepsSoFar old → Headed 6 c → All (IsFate c.life) old.fates → rules.AreHosts c.server.name c.client.name c.hosts → ParamsSoFar c.params old.params_lines old.params → KeepsLines c → old.bytes ≡ bytes_of c
+    → KeepsSoFar (with_config old sections.Config c)
+lined old c k h fates hosts params lines sum = record {
   headed = h;
+  hosts = hosts;
+  no_hosts = λ h. absurd (omega (arith, h));
+  params = params;
   lines = lines;
   sum = sum;
   early = λ h. absurd (omega (arith, h));
@@ -197,23 +208,57 @@ lined old c k h fates lines sum = record {
   few = k.few;
 }
 
+host_kept : (old : Draft) (args : List Text) (new : Draft) → HostLine old args new → KeepsSoFar old → KeepsSoFar new
+host_kept old args new l k =
+    let may : MayAddHost old.config l.host.name = subst (λ (t : Text). MayAddHost old.config t) (sym l.same_name) l.may in
+    let is : rules.IsHost l.host = record { name = subst rules.IsName (sym l.same_name) l.is_name; ip = l.is_ip.fits } in
+    let kept : KeepsSoFar (with_host old l.host) = record {
+      headed = k.headed;
+      hosts = one_more_host old.config l.host k.hosts may is;
+      no_hosts = λ h. absurd (omega (arith, h, ap stage l.place));
+      params = k.params;
+      lines = k.lines;
+      sum = k.sum;
+      early = k.early;
+      fates = k.fates;
+      commands = k.commands;
+      few = k.few;
+    } in
+    subst KeepsSoFar (sym l.means) kept
+
+params_kept : (old : Draft) (args : List Text) (new : Draft) → AllByRecursion OneLine args → ParamsLine old args new → KeepsSoFar old → KeepsSoFar new
+params_kept old args new one l k =
+    let kept : KeepsSoFar (with_params old l.line l.params) = record {
+      headed = k.headed;
+      hosts = k.hosts;
+      no_hosts = k.no_hosts;
+      params = one_more_line old.config.params old.params_lines old.params l.params l.line k.params l.few (rest_one_line args l.line one l.text) l.says;
+      lines = k.lines;
+      sum = k.sum;
+      early = k.early;
+      fates = k.fates;
+      commands = k.commands;
+      few = k.few;
+    } in
+    subst KeepsSoFar (sym l.means) kept
+
 arch_kept : (old : Draft) (args : List Text) (new : Draft) → ArchLine old args new → KeepsSoFar old → KeepsSoFar new
 arch_kept old args new l k =
     let c = old.config in
     let lines = arch_lined c.arch c.tftp c.root c.items c.kernel c.swap k.lines l.name l.is_name in
-    subst KeepsSoFar (sym l.means) (lined old (record c { arch = l.name }) k (came old sections.Config l.place k) k.fates lines k.sum)
+    subst KeepsSoFar (sym l.means) (lined old (record c { arch = l.name }) k (came old sections.Config l.place k) k.fates k.hosts k.params lines k.sum)
 
 kernel_kept : (old : Draft) (args : List Text) (new : Draft) → KernelLine old args new → KeepsSoFar old → KeepsSoFar new
 kernel_kept old args new l k =
     let c = old.config in
     let lines = kernel_lined c.arch c.tftp c.root c.items c.kernel c.swap k.lines l.path l.is_path in
-    subst KeepsSoFar (sym l.means) (lined old (record c { kernel = l.path }) k (came old sections.Config l.place k) k.fates lines k.sum)
+    subst KeepsSoFar (sym l.means) (lined old (record c { kernel = l.path }) k (came old sections.Config l.place k) k.fates k.hosts k.params lines k.sum)
 
 root_kept : (old : Draft) (args : List Text) (new : Draft) → RootLine old args new → KeepsSoFar old → KeepsSoFar new
 root_kept old args new l k =
     let c = old.config in
     let lines = root_lined c.arch c.tftp c.root c.items c.kernel c.swap k.lines l.path l.is_path l.may.1 in
-    subst KeepsSoFar (sym l.means) (lined old (record c { root = Some l.path }) k (came old sections.Config l.place k) k.fates lines k.sum)
+    subst KeepsSoFar (sym l.means) (lined old (record c { root = Some l.path }) k (came old sections.Config l.place k) k.fates k.hosts k.params lines k.sum)
 
 swap_kept : (old : Draft) (args : List Text) (new : Draft) → SwapFileLine old args new → KeepsSoFar old → KeepsSoFar new
 swap_kept old args new l k =
@@ -221,7 +266,7 @@ swap_kept old args new l k =
     let swap : SwapLine = record { path = l.path; size = l.size } in
     let is : rules.IsSwap swap = record { path = l.is_path; size = within 8192 33554432 l.is_size } in
     let lines = swap_lined c.arch c.tftp c.root c.items c.kernel c.swap k.lines swap is l.may.1 in
-    subst KeepsSoFar (sym l.means) (lined old (record c { swap = Some swap }) k (came old sections.Config l.place k) k.fates lines k.sum)
+    subst KeepsSoFar (sym l.means) (lined old (record c { swap = Some swap }) k (came old sections.Config l.place k) k.fates k.hosts k.params lines k.sum)
 
 boot_file_kept : (old : Draft) (file : BootFile) → old.section ≡ sections.Config → MayAddBootFile old.config.tftp file.name → rules.IsBootFile file → HasRoom old (length file.bytes) → KeepsSoFar old → KeepsSoFar (with_boot_file old file)
 boot_file_kept old file place may is room k =
@@ -229,6 +274,9 @@ boot_file_kept old file place may is room k =
     let sum : old.bytes + length file.bytes ≡ size_of (c.tftp ++ file ∷ []) c.items = omega (arith, k.sum, sum_with_boot_file c.tftp c.items file) in
     record {
       headed = k.headed;
+      hosts = k.hosts;
+      no_hosts = k.no_hosts;
+      params = k.params;
       lines = tftp_lined c.arch c.tftp c.root c.items c.kernel c.swap k.lines file may is (omega (arith, room, k.sum));
       sum = sum;
       early = k.early;
@@ -249,6 +297,9 @@ item_kept old item place may is room k =
     let sum : old.bytes + rules.item_size item ≡ size_of c.tftp (c.items ++ item ∷ []) = omega (arith, k.sum, sum_with_item c.tftp c.items item) in
     record {
       headed = k.headed;
+      hosts = k.hosts;
+      no_hosts = k.no_hosts;
+      params = k.params;
       lines = item_lined c.arch c.tftp c.root c.items c.kernel c.swap k.lines item may is (omega (arith, room, k.sum));
       sum = sum;
       early = k.early;
@@ -297,6 +348,9 @@ fate_kept old args new l k =
     let P = IsFate old.config.life in
     let kept : KeepsSoFar (with_fate old l.fate) = record {
       headed = headed_on old at k;
+      hosts = k.hosts;
+      no_hosts = λ h. absurd (omega (arith, h));
+      params = k.params;
       lines = k.lines;
       sum = k.sum;
       early = λ h. absurd (omega (arith, h));
@@ -311,6 +365,9 @@ adds_kept old command new is l k =
     let at = whole_at_command old.section l.place in
     let kept : KeepsSoFar (with_command old command) = record {
       headed = headed_on old at k;
+      hosts = k.hosts;
+      no_hosts = λ h. absurd (omega (arith, h));
+      params = k.params;
       lines = k.lines;
       sum = k.sum;
       early = λ h. absurd (omega (arith, h));
@@ -320,30 +377,37 @@ adds_kept old command new is l k =
     } in
     subst KeepsSoFar (sym l.means) kept
 
-word_kept : (word : Word) (old : Draft) (args : List Text) (new : Draft) → WordLine word old args new → KeepsSoFar old → KeepsSoFar new
-word_kept words.Life old args new l k = life_kept old args new l k
-word_kept words.Tries old args new l k = tries_kept old args new l k
-word_kept words.Wait old args new l k = elim l [ inl h ↦ wait_kept old args new h k | inr h ↦ adds_kept old (commands.Wait h.ticks) new (within 1 100000 h.number) h.adds k ]
-word_kept words.Pages old args new l k = pages_kept old args new l k
-word_kept words.Server old args new l k = server_kept old args new l k
-word_kept words.Client old args new l k = client_kept old args new l k
-word_kept words.Arch old args new l k = arch_kept old args new l k
-word_kept words.Tftp old args new l k = tftp_kept old args new l k
-word_kept words.Root old args new l k = root_kept old args new l k
-word_kept words.File old args new l k = file_kept old args new l k
-word_kept words.Link old args new l k = link_kept old args new l k
-word_kept words.Kernel old args new l k = kernel_kept old args new l k
-word_kept words.Swap old args new l k = swap_kept old args new l k
-word_kept words.Fate old args new l k = fate_kept old args new l k
-word_kept words.Addr old args new l k = adds_kept old commands.Addr new tt l.adds k
-word_kept words.Boot old args new l k = adds_kept old commands.Boot new tt l.adds k
+word_kept : (word : Word) (old : Draft) (args : List Text) (new : Draft) → AllByRecursion OneLine args → WordLine word old args new → KeepsSoFar old → KeepsSoFar new
+word_kept words.Life old args new one l k = life_kept old args new l k
+word_kept words.Tries old args new one l k = tries_kept old args new l k
+word_kept words.Wait old args new one l k = elim l [ inl h ↦ wait_kept old args new h k | inr h ↦ adds_kept old (commands.Wait h.ticks) new (within 1 100000 h.number) h.adds k ]
+word_kept words.Pages old args new one l k = pages_kept old args new l k
+word_kept words.Server old args new one l k = server_kept old args new l k
+word_kept words.Client old args new one l k = client_kept old args new l k
+word_kept words.Arch old args new one l k = arch_kept old args new l k
+word_kept words.Host old args new one l k = host_kept old args new l k
+word_kept words.Params old args new one l k = params_kept old args new one l k
+word_kept words.Tftp old args new one l k = tftp_kept old args new l k
+word_kept words.Root old args new one l k = root_kept old args new l k
+word_kept words.File old args new one l k = file_kept old args new l k
+word_kept words.Link old args new one l k = link_kept old args new l k
+word_kept words.Kernel old args new one l k = kernel_kept old args new l k
+word_kept words.Swap old args new one l k = swap_kept old args new l k
+word_kept words.Fate old args new one l k = fate_kept old args new l k
+word_kept words.Addr old args new one l k = adds_kept old commands.Addr new tt l.adds k
+word_kept words.Boot old args new one l k = adds_kept old commands.Boot new tt l.adds k
 
-line_kept : (old : Draft) (line : Text) (new : Draft) → IsLine old line new → KeepsSoFar old → KeepsSoFar new
-line_kept old line new l k = elim l [ inl skipped ↦ subst KeepsSoFar (sym skipped.1) k | inr w ↦ word_kept w.word old w.args new w.says k ]
+line_kept : (old : Draft) (line : Text) (new : Draft) → OneLine line → IsLine old line new → KeepsSoFar old → KeepsSoFar new
+line_kept old line new one l k = elim l [
+  | inl skipped ↦ subst KeepsSoFar (sym skipped.1) k
+  | inr w ↦
+      let parts : AllByRecursion OneLine (spelling w.word ∷ w.args) = subst (λ (l : List Text). AllByRecursion OneLine l) w.text (parts_one 32 line one) in
+      word_kept w.word old w.args new parts.1 w.says k
+]
 
 leads_kept : (old : Draft) (lines : List Text) (new : Draft) → Leads old lines new → KeepsSoFar old → KeepsSoFar new
 leads_kept old [] new e k = subst KeepsSoFar e k
-leads_kept old (line ∷ more) new l k = leads_kept l.0 more new l.2 (line_kept old (without_feed line) l.0 l.1 k)
+leads_kept old (line ∷ more) new l k = leads_kept l.0 more new l.2 (line_kept old (without_feed line) l.0 (before_one line) l.1 k)
 
 blank_kept : KeepsSoFar blank
 blank_kept = record {
@@ -358,6 +422,9 @@ blank_kept = record {
     router = λ h. absurd (omega (arith, h));
     differ = λ h. absurd (omega (arith, h));
   };
+  hosts = no_hosts_are [] [] [] refl;
+  no_hosts = λ _. refl;
+  params = no_params;
   lines = no_lines;
   sum = refl;
   early = λ _. refl;
@@ -367,8 +434,8 @@ blank_kept = record {
 }
 
 -- a heading and configuration lines make a configuration
-config_kept : (c : Config) → Headed 6 c → KeepsLines c → IsConfig (record c { kernel = kernel_or_usual c.kernel })
-config_kept c h l =
+config_kept : (c : Config) → Headed 6 c → rules.AreHosts c.server.name c.client.name c.hosts → rules.AreParams c.params → KeepsLines c → IsConfig (record c { kernel = kernel_or_usual c.kernel })
+config_kept c h hosts params l =
     let differ = h.differ (omega arith) in
     record {
       life = h.life (omega arith);
@@ -383,7 +450,9 @@ config_kept c h l =
       ips = λ e. differ.ip (sym e);
       names = λ e. differ.name (sym e);
       arch = l.arch;
+      hosts = hosts;
       tftp = l.tftp;
+      params = params;
       root = l.root;
       items = l.items;
       kernel = usual_or_named c.kernel l.kernel;
@@ -397,7 +466,7 @@ keeps_rules text script s =
     let k = leads_kept blank _ s.draft s.says.leads blank_kept in
     let at = whole_at_command s.draft.section s.whole in
     let kept : KeepsRules (script_of s.draft) = record {
-      config = config_kept s.draft.config (headed_on s.draft at k) k.lines;
+      config = config_kept s.draft.config (headed_on s.draft at k) k.hosts (params_are s.draft.config.params s.draft.params_lines s.draft.params k.params) k.lines;
       events = record { fates = k.fates };
       commands = k.commands;
       few = k.few;

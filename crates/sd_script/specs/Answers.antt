@@ -2,17 +2,20 @@
 use Rattle.std.specs.Prelude.{◌∷◌, ◌++◌, [], codes}
 use Rattle.std.specs.Fmt.{decimal}
 use Rattle.sd_link.specs.declared.link.Stage.{Stage}
-use Rattle.sd_link.specs.declared.link.Stage.TheVariants.{Rarp, Tftp, Whoami, Wait}
+use Rattle.sd_link.specs.declared.link.Stage.TheVariants.{Rarp, Tftp, Whoami, Getfile, Getport, Mnt, Wait}
 use Rattle.sd_link.specs.Texts.{Text, ip_text}
 use Rattle.sd_link.specs.Runs.{runs_text}
 use Rattle.sd_script.specs.declared.told.Told.{Told}
-use Rattle.sd_script.specs.declared.told.Told.TheVariants.{AddrOk, AddrTimeout, AddrFlood, AddrLinkFault, BootUnbuilt, BootTimeout, BootFlood, BootRefused, BootTooLarge, BootLinkFault, WaitOk, WaitFlood, WaitLinkFault}
+use Rattle.sd_script.specs.declared.told.Told.TheVariants.{AddrOk, AddrTimeout, AddrFlood, AddrLinkFault, BootUnbuilt, BootTimeout, BootFlood, BootDenied, BootRefused, BootNoPort, BootTooLarge, BootLinkFault, WaitOk, WaitFlood, WaitLinkFault}
 
 -- the word for a step
 abbrev pub stage_text : Stage → Text
 stage_text Rarp = codes "rarp"
 stage_text Tftp = codes "tftp"
 stage_text Whoami = codes "whoami"
+stage_text Getfile = codes "getfile"
+stage_text Getport = codes "getport"
+stage_text Mnt = codes "mnt"
 stage_text Wait = codes "wait"
 
 -- what stands before the line feed
@@ -24,7 +27,9 @@ answer_text AddrLinkFault = codes "addr linkfault"
 answer_text (BootUnbuilt step program) = codes "boot unbuilt " ++ stage_text step ++ codes " program " ++ runs_text program
 answer_text (BootTimeout step) = codes "boot timeout " ++ stage_text step
 answer_text (BootFlood step) = codes "boot flood " ++ stage_text step
+answer_text (BootDenied step code) = codes "boot denied " ++ stage_text step ++ codes " " ++ decimal code
 answer_text (BootRefused step status) = codes "boot refused " ++ stage_text step ++ codes " " ++ decimal status
+answer_text BootNoPort = codes "boot noport getport"
 answer_text (BootTooLarge size) = codes "boot toolarge " ++ decimal size
 answer_text BootLinkFault = codes "boot linkfault"
 answer_text (WaitOk ticks) = codes "wait " ++ decimal ticks ++ codes " ok"

@@ -1,6 +1,7 @@
 -- Which bytes are a script, and which line is the first outside the grammar.
 use Rattle.std.specs.Prelude.{◌≡◌, ℕ, ◌+◌, ◌<◌, ◌≤◌, ◌==◌, List, [], ◌∷◌, ◌++◌, length, codes, None, ◌⊎◌, if◌then◌else◌}
 use Rattle.std.specs.List.{onto_first, before_first, concat}
+use Rattle.sd_bootparams.specs.LineByLine as file
 use Rattle.sd_link.specs.declared.config.Machine.{Machine}
 use Rattle.sd_link.specs.declared.config.Config.{Config}
 use Rattle.sd_script.specs.declared.draft.Section.{Section}
@@ -14,7 +15,7 @@ use Rattle.sd_script.specs.declared.error.ScriptError.TheVariants as errors
 use Rattle.sd_link.specs.Texts.{Text}
 use Rattle.sd_script.specs.Texts.{fields}
 use Rattle.sd_script.specs.Limits.{input_limit}
-use Rattle.sd_script.specs.Lines.{LifeLine, TriesLine, WaitLine, PagesLine, ServerLine, ClientLine, ArchLine, TftpLine, RootLine, FileLine, LinkLine, KernelLine, SwapFileLine, FateLine, AddrLine, BootLine, WaitCommandLine}
+use Rattle.sd_script.specs.Lines.{LifeLine, TriesLine, WaitLine, PagesLine, ServerLine, ClientLine, ArchLine, HostLine, ParamsLine, TftpLine, RootLine, FileLine, LinkLine, KernelLine, SwapFileLine, FateLine, AddrLine, BootLine, WaitCommandLine}
 
 -- the word with which a line begins
 abbrev pub spelling : Word → Text
@@ -25,6 +26,8 @@ spelling words.Pages = codes "pages"
 spelling words.Server = codes "server"
 spelling words.Client = codes "client"
 spelling words.Arch = codes "arch"
+spelling words.Host = codes "host"
+spelling words.Params = codes "params"
 spelling words.Tftp = codes "tftp"
 spelling words.Root = codes "root"
 spelling words.File = codes "file"
@@ -44,6 +47,8 @@ WordLine words.Pages old args new = PagesLine old args new
 WordLine words.Server old args new = ServerLine old args new
 WordLine words.Client old args new = ClientLine old args new
 WordLine words.Arch old args new = ArchLine old args new
+WordLine words.Host old args new = HostLine old args new
+WordLine words.Params old args new = ParamsLine old args new
 WordLine words.Tftp old args new = TftpLine old args new
 WordLine words.Root old args new = RootLine old args new
 WordLine words.File old args new = FileLine old args new
@@ -98,7 +103,9 @@ no_config = record {
   domain = [];
   router = 0;
   arch = [];
+  hosts = [];
   tftp = [];
+  params = [];
   root = None;
   items = [];
   kernel = [];
@@ -106,7 +113,7 @@ no_config = record {
 }
 
 abbrev pub blank : Draft
-blank = record { section = sections.Life; config = no_config; bytes = 0; fates = []; commands = [] }
+blank = record { section = sections.Life; config = no_config; params_lines = 0; params = file.blank; bytes = 0; fates = []; commands = [] }
 
 -- the kernel's path, and the usual one where no line names another
 abbrev pub kernel_or_usual : Text → Text

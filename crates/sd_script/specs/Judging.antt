@@ -6,7 +6,7 @@ use Rattle.sd_script.specs.declared.draft.Draft.{Draft}
 use Rattle.sd_link.specs.Texts.{Text}
 use Rattle.sd_script.specs.Texts.{IsNumber}
 use Rattle.sd_link.specs.declared.config.Machine.{Machine}
-use Rattle.sd_script.specs.Lines.{IsMachine}
+use Rattle.sd_script.specs.Lines.{IsMachine, IsRest}
 use Rattle.sd_script.specs.Reading.{OnOutside}
 use Rattle.sd_script.specs.declared.error.ScriptError.{ScriptError}
 use Rattle.sd_script.specs.Grammar.{lines, Says, IsScriptError}
@@ -30,6 +30,11 @@ TakesLast {X} R old (Err e) = OnOutside e ((text : Text) (x : X) → old ≡ tex
 abbrev pub Judges : (Draft → List Text → Draft → Type 0) → Draft → List Text → Draft → Result Unit LineError → Type 0
 Judges R old args new (Ok done) = R old args new
 Judges R old args new (Err e) = OnOutside e ((other : Draft) → R old args other → ⊥)
+
+-- The parts are those of a text, or there is none.
+abbrev pub TakesRest : List Text → Result (List ℕ) LineError → Type 0
+TakesRest old (Ok text) = IsRest old text
+TakesRest old (Err e) = OnOutside e (old ≡ [])
 
 -- The first part has the property, and is what the slice shows.
 abbrev pub TakesText : (Text → Type 0) → List Text → List Text → Result (Bor (List ℕ)) LineError → Type 0

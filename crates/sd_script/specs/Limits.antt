@@ -9,6 +9,14 @@ input_limit = 67108864
 abbrev pub all_files_limit : ℕ
 all_files_limit = 67108864
 
+-- the most further machines
+abbrev pub host_limit : ℕ
+host_limit = 16
+
+-- the most lines of the bootparams file
+abbrev pub params_limit : ℕ
+params_limit = 256
+
 -- the most commands of a script
 abbrev pub command_limit : ℕ
 command_limit = 16384

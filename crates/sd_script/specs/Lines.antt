@@ -1,6 +1,9 @@
 -- Each line of a script: its text, its rule and what it says. `old` is what the lines before it say.
 use Rattle.std.specs.Prelude.{◌≡◌, ◌≢◌, ℕ, ◌+◌, ◌-◌, ◌<◌, ◌≤◌, ◌^◌, List, [], ◌∷◌, ◌++◌, length, codes, Some, None, IfSome, ◌⊎◌}
 use Rattle.std.specs.List.{All, AllZip}
+use Rattle.sd_bootparams.specs.declared.book.Host.{Host}
+use Rattle.sd_bootparams.specs.declared.draft.Draft as file
+use Rattle.sd_bootparams.specs.LineByLine.{fed, line_parts, after_line, Says}
 use Rattle.sd_link.specs.declared.config.Config.{Config}
 use Rattle.sd_link.specs.declared.config.Machine.{Machine}
 use Rattle.sd_link.specs.declared.config.BootFile.{BootFile}
@@ -17,12 +20,19 @@ use Rattle.sd_link.specs.Texts.{Text}
 use Rattle.sd_link.specs.Config.{IsName, boot_file_limit, IsPath, IsTarget, AreApart, item_path, item_size}
 use Rattle.sd_script.specs.Texts.{IsNumber, IsMac, IsIp}
 use Rattle.sd_script.specs.Runs.{IsRunsWithin}
-use Rattle.sd_script.specs.Limits.{all_files_limit, command_limit, fate_limit}
+use Rattle.sd_script.specs.Limits.{all_files_limit, host_limit, params_limit, command_limit, fate_limit}
 
 -- The draft with another configuration, event or command, and the section of the next line.
 
 abbrev pub with_config : Draft → Section → Config → Draft
 with_config draft section config = record draft { section = section; config = config }
+
+abbrev pub with_host : Draft → Host → Draft
+with_host draft host = record draft { config = record draft.config { hosts = draft.config.hosts ++ (host ∷ []) } }
+
+-- one more line of the bootparams file, which then says this
+abbrev pub with_params : Draft → Text → file.Draft → Draft
+with_params draft line params = record draft { config = record draft.config { params = draft.config.params ++ fed line }; params_lines = draft.params_lines + 1; params = params }
 
 abbrev pub with_boot_file : Draft → BootFile → Draft
 with_boot_file draft file = record draft { config = record draft.config { tftp = draft.config.tftp ++ (file ∷ []) }; bytes = draft.bytes + length file.bytes }
@@ -135,6 +145,48 @@ pub record ArchLine (old : Draft) (args : List Text) (new : Draft) : Type 0 wher
   pub is_name : IsName name
   pub first : old.config.arch ≡ []
   pub means : new ≡ with_config old sections.Config (record old.config { arch = name })
+
+-- at most 16 further machines, whose names differ from each other and from those of the two ends
+pub record MayAddHost (config : Config) (name : Text) : Type 0 where
+  pub few : length config.hosts < host_limit
+  pub not_server : config.server.name ≢ name
+  pub not_client : config.client.name ≢ name
+  pub others : All (λ (other : Host). other.name ≢ name) config.hosts
+
+-- `host NAME IP`, with any address
+pub record HostLine (old : Draft) (args : List Text) (new : Draft) : Type 0 where
+  pub host : Host
+  pub name : Text
+  pub ip : Text
+  pub text : args ≡ name ∷ ip ∷ []
+  pub place : old.section ≡ sections.Config
+  pub is_name : IsName name
+  pub same_name : host.name ≡ name
+  pub is_ip : IsIp ip host.ip
+  pub may : MayAddHost old.config name
+  pub means : new ≡ with_host old host
+
+-- the rest of a line, of which these are the fields: the first, and a space before each further one
+abbrev pub spaced : List Text → Text
+spaced [] = []
+spaced (field ∷ more) = 32 ∷ field ++ spaced more
+
+pub record IsRest (args : List Text) (text : Text) : Type 0 where
+  pub field : Text
+  pub more : List Text
+  pub fields : args ≡ field ∷ more
+  pub is : text ≡ field ++ spaced more
+
+-- `params TEXT`: one more line of the bootparams file, at most 256. What its words say has no fault after what the lines before it
+-- say.
+pub record ParamsLine (old : Draft) (args : List Text) (new : Draft) : Type 0 where
+  pub line : Text
+  pub params : file.Draft
+  pub text : IsRest args line
+  pub place : old.section ≡ sections.Config
+  pub few : old.params_lines < params_limit
+  pub says : Says old.params (line_parts old.params.next (old.params_lines + 1) (fed line)) (after_line old.params.next (fed line)) params
+  pub means : new ≡ with_params old line params
 
 -- the files so far, with so many bytes more, are within the limit
 abbrev pub HasRoom : Draft → ℕ → Type 0

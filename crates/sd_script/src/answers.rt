@@ -19,6 +19,9 @@ fn stage_word(stage: Stage) -> &'static [u8]
         Stage::Rarp => b"rarp",
         Stage::Tftp => b"tftp",
         Stage::Whoami => b"whoami",
+        Stage::Getfile => b"getfile",
+        Stage::Getport => b"getport",
+        Stage::Mnt => b"mnt",
         Stage::Wait => b"wait",
     }
 }
@@ -62,17 +65,18 @@ fn push_count(alloc: Global, words: &[u8], count: u64, line: &mut ByteList) -> R
     push_number(alloc, line, count)
 }
 
-/// Adds `boot refused STEP N`.
-fn push_refused(
+/// Adds some words, the word for a step and a number.
+fn push_code(
     alloc: Global,
+    words: &[u8],
     step: Stage,
-    status: u32,
+    code: u32,
     line: &mut ByteList,
 ) -> Result<(), NoMemory>
-    ensures { OnOk result (line.new ≡ line.old ++ answer_text (Told.BootRefused step status)) }
+    ensures { OnOk result (line.new ≡ line.old ++ (words.now ++ stage_text step ++ codes " " ++ decimal code)) }
 {
-    push_step(b"boot refused ", step, line)?;
-    push_count(alloc, b" ", u64::from(status), line)
+    push_step(words, step, line)?;
+    push_count(alloc, b" ", u64::from(code), line)
 }
 
 /// Adds `wait N` and what stands behind it.
@@ -96,7 +100,15 @@ fn push_answer(alloc: Global, answer: &Told, line: &mut ByteList) -> Result<(), 
         Told::BootUnbuilt { step, program } => push_unbuilt(alloc, *step, program, line),
         Told::BootTimeout { step } => push_step(b"boot timeout ", *step, line),
         Told::BootFlood { step } => push_step(b"boot flood ", *step, line),
-        Told::BootRefused { step, status } => push_refused(alloc, *step, *status, line),
+        Told::BootDenied { step, code } => push_code(alloc, b"boot denied ", *step, *code, line),
+        Told::BootRefused { step, status } => push_code(
+            alloc,
+            b"boot refused ",
+            *step,
+            *status,
+            line,
+        ),
+        Told::BootNoPort => line.push_slice(b"boot noport getport"),
         Told::BootTooLarge { size } => push_count(alloc, b"boot toolarge ", *size, line),
         Told::BootLinkFault => line.push_slice(b"boot linkfault"),
         Told::WaitOk { ticks } => push_wait(alloc, *ticks, b" ok", line),

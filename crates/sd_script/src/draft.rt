@@ -28,6 +28,8 @@ pub enum Word {
     Server,
     Client,
     Arch,
+    Host,
+    Params,
     Tftp,
     Root,
     File,
@@ -44,6 +46,9 @@ pub enum Word {
 pub struct Draft {
     pub section: Section,
     pub config: Config,
+    /// How many lines of the bootparams file came, what they say, and what its next word is.
+    pub params_lines: u64,
+    pub params: sd_bootparams::Draft,
     /// How many bytes boot files and files of the root export have so far.
     pub bytes: u64,
     pub fates: FateBook,

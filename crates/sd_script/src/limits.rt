@@ -12,6 +12,12 @@ pub const BOOT_FILE_LIMIT: usize = 33_553_919;
 /// The most bytes of a file of the root export.
 pub const ROOT_FILE_LIMIT: usize = 33_554_432;
 
+/// The most further machines.
+pub const HOST_COUNT: usize = 16;
+
+/// The most lines of the bootparams file.
+pub const PARAMS_COUNT: u64 = 256;
+
 /// The most boot files.
 pub const BOOT_FILE_COUNT: usize = 16;
 

@@ -10,15 +10,17 @@ mod config;
 mod events;
 mod files;
 mod heading;
+mod params;
 
 use crate::draft::{Draft, Section, Word};
 use crate::error::LineError;
 use crate::parts::Parts;
 use commands::{addr_line, boot_line, wait_command_line};
-use config::{arch_line, kernel_line, root_line, swap_line};
+use config::{arch_line, host_line, kernel_line, root_line, swap_line};
 use events::fate_line;
 use files::{file_line, link_line, tftp_line};
 use heading::{client_line, life_line, pages_line, server_line, tries_line, wait_line};
+use params::params_line;
 use std::alloc::Global;
 
 /// The word that a text spells.
@@ -33,6 +35,8 @@ fn word_of(text: &[u8]) -> Option<Word>
         b"server" => Some(Word::Server),
         b"client" => Some(Word::Client),
         b"arch" => Some(Word::Arch),
+        b"host" => Some(Word::Host),
+        b"params" => Some(Word::Params),
         b"tftp" => Some(Word::Tftp),
         b"root" => Some(Word::Root),
         b"file" => Some(Word::File),
@@ -73,6 +77,8 @@ fn word_line(
         Word::Server => server_line(alloc, draft, fields),
         Word::Client => client_line(alloc, draft, fields),
         Word::Arch => arch_line(alloc, draft, fields),
+        Word::Host => host_line(alloc, draft, fields),
+        Word::Params => params_line(alloc, draft, fields),
         Word::Tftp => tftp_line(alloc, draft, fields),
         Word::Root => root_line(alloc, draft, fields),
         Word::File => file_line(alloc, draft, fields),

@@ -20,8 +20,13 @@ pub enum Told {
     BootTimeout { step: Stage },
     /// 4,096 packets without a match came in one try of this step.
     BootFlood { step: Stage },
+    /// The call of this step was refused: 1 to 4 are the accept states of RFC 1057, section 8, 10 is RPC_MISMATCH, and 11 to
+    /// 15 are AUTH_ERROR with the auth states 1 to 5.
+    BootDenied { step: Stage, code: u32 },
     /// The server refused this step, with its status or its error code.
     BootRefused { step: Stage, status: u32 },
+    /// The server has no port for the program that the boot needs next.
+    BootNoPort,
     /// The boot program has more bytes than the client takes.
     BootTooLarge { size: u64 },
     /// The link failed in the boot.

@@ -10,7 +10,7 @@ use Rattle.sd_link.specs.declared.config.Config.{Config}
 use Rattle.sd_link.specs.World.{World, Session, ServerPart, Flying, Server, start}
 use Rattle.sd_link.specs.Sessions.{session_in, with_session, without_session, is_due, sent_again, block_packet}
 use Rattle.sd_link.specs.Reply.{out_of, next_of}
-use Rattle.sd_link.specs.Steps.{Step, Tick, Send, Serve, Data, End, Get, Entry, run, after, served, resent, with_sessions, blocks_again, sent_from, replies_to, entries_of, record_of, AllAllowed, Allowed, IsDeliverable, goes_to_server, goes_to_client}
+use Rattle.sd_link.specs.Steps.{Step, Tick, Send, Serve, Data, End, Get, run, after, served, resent, blocks_again, sent_from, replies_to, entries_of, record_of, AllAllowed, Allowed, goes_to_server, goes_to_client}
 use Rattle.sd_link.proofs.Histories.{run-append, allowed-append, record-append}
 use Rattle.sd_segment.specs.declared.flown.Origin.TheVariants as origin
 use Rattle.sd_segment.specs.declared.flown.Flown.{Flown}

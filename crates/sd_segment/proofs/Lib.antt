@@ -1,3 +1,5 @@
+pub mod Known
+pub mod Fitting
 pub mod Found
 pub mod Blocks
 pub mod Numbering
@@ -13,3 +15,5 @@ pub mod Keeping
 pub mod Turning
 pub mod Passing
 pub mod Waiting
+pub mod Outlived
+pub mod Ascending

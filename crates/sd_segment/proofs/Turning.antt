@@ -8,7 +8,7 @@ use Rattle.sd_outside.specs.declared.packet.Packet.{Packet}
 use Rattle.sd_link.specs.declared.config.Config.{Config}
 use Rattle.sd_link.specs.Events.{Fates}
 use Rattle.sd_link.specs.World.{World, ServerPart, Flying, Sender, start}
-use Rattle.sd_link.specs.Steps.{Step, Tick, Send, Serve, Data, End, Get, Entry, goes_to_server, goes_to_client, run, record_of}
+use Rattle.sd_link.specs.Steps.{Step, Tick, Send, Serve, Data, End, Get, Entry, goes_to_server, goes_to_client, record_of}
 use Rattle.sd_link.specs.Steps as steps
 use Rattle.sd_link.specs.Lawful.{InTurn, AllInTurn, served_at, got_at, due, due_to_server, due_to_client, due_sessions, IsNextDue, IsFrontOf}
 use Rattle.sd_link.proofs.Histories.{in_turn-append}

@@ -1,4 +1,5 @@
 pub mod Server
+pub mod Services
 pub mod Flight
 pub mod Kept
 pub mod Segment

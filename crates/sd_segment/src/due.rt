@@ -1,6 +1,8 @@
 //! What comes at a tick.
-ghost use Rattle.std.specs.Prelude.{◌≡◌, ◌≤◌, ◌++◌, map, IfOk, OnOk};
-ghost use Rattle.sd_link.specs.Events.{fate_in};
+ghost use Rattle.std.specs.List.{All, AllByRecursion};
+ghost use Rattle.std.specs.List.Sorted.{IsNonDecreasingBy};
+ghost use Rattle.std.specs.Prelude.{◌≡◌, ◌+◌, ◌≤◌, ◌++◌, length, map, take, IfOk, OnOk};
+ghost use Rattle.sd_link.specs.Events.{fate_in, IsFate};
 ghost use Rattle.sd_link.specs.Lawful.{due};
 ghost use Rattle.sd_link.specs.Link.{last_tick};
 ghost use Rattle.sd_segment.specs.Flight.{flying_of, goes_to, delays_of, copies, copies_to, AllFated};
@@ -69,6 +71,18 @@ fn add_packet(
     }
 }
 
+/// How many packets at the front of the flight were sent so long ago that no copy of them comes at this tick.
+fn outlived(flight: &[Flown], life: u64, tick: u64) -> usize
+    requires { IsNonDecreasingBy (λ (f : Flown). f.tick) flight.now }
+    ensures below { result ≤ length flight.now }
+    ensures old { AllByRecursion (λ (f : Flown). f.tick + life ≤ tick) (take result flight.now) }
+{
+    match tick.checked_sub(life) {
+        None => 0,
+        Some(last) => flight.partition_point(|flown| flown.tick <= last),
+    }
+}
+
 /// The ids of what comes to this end at a tick, in order of the ids and then of the fates.
 pub fn due_ids(
     alloc: Global,
@@ -79,11 +93,15 @@ pub fn due_ids(
     tick: u64,
 ) -> Result<Queue, NoMemory>
     requires tick { tick ≤ last_tick }
+    requires life { 2 ≤ config.now.life }
+    requires fates { All (IsFate config.now.life) fates.now }
     requires fated { AllFated fates.now 0 flight.now }
+    // The packets stand in the order in which they were sent.
+    requires ascends { IsNonDecreasingBy (λ (f : Flown). f.tick) flight.now }
     ensures { IfOk result (λ ids. ids ≡ due (goes_to end config.now) (fate_in fates.now) (map flying_of flight.now) tick) }
 {
     let mut ids = Queue::empty(alloc);
-    for id in 0..flight.len() {
+    for id in outlived(flight, config.life, tick)..flight.len() {
         add_packet(&mut ids, id, config, end, fates, &flight[id], tick)?;
     }
     Ok(ids)

@@ -5,16 +5,20 @@
 //! history that a segment tells is lawful (`Segment::facts`).
 #![tactic(auto)]
 
+mod bootparams;
 mod due;
 mod ends;
 mod flown;
+mod portmap;
 mod printing;
 mod pushing;
 mod queue;
 mod reply;
+mod rpc;
 mod segment;
 mod server;
 mod sessions;
+mod setup;
 mod tftp;
 
 pub use segment::Segment;

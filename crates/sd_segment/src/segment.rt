@@ -1,5 +1,5 @@
 //! The network between the client and the server: what it holds, and what always holds of it.
-ghost use Rattle.std.specs.Prelude.{◌≡◌, ◌⊎◌, ◌≤◌, [], IsTrue, IsFalse};
+ghost use Rattle.std.specs.Prelude.{◌≡◌, ◌⊎◌, ◌≤◌, [], IfOk, IsTrue, IsFalse};
 ghost use Rattle.sd_link.specs.Events.{fates_of, IsEvents};
 ghost use Rattle.sd_link.specs.Lawful.{IsLawful, IsFrontOf};
 ghost use Rattle.sd_link.specs.Link.{last_tick, IsBounded, NothingWaits};
@@ -16,6 +16,7 @@ use crate::flown::{Flown, Kept};
 use crate::queue::Queue;
 use crate::server::Server;
 use sd_link::{Config, Events};
+use sd_outside::NoMemory;
 use std::alloc::Global;
 use std::marker::Model;
 
@@ -59,20 +60,21 @@ impl Model for Segment {
 }
 
 impl Segment {
-    /// A network at tick 0, in which nothing was sent. It takes no memory.
-    pub fn new(alloc: Global, config: Config, events: Events) -> Segment
+    /// A network at tick 0, in which nothing was sent. The book of the bootparams file is made here, and takes memory.
+    pub fn new(alloc: Global, config: Config, events: Events) -> Result<Segment, NoMemory>
         requires config { IsConfig config }
         requires events { IsEvents config events }
-        ensures told { history_of result ≡ record { config = config; events = events; steps = [] } }
-        ensures drained { text_drained result ≡ [] }
-        ensures clock { result.tick ≡ 0 }
-        ensures faults { result.faults ≡ 0 }
-        ensures handed { result.handed ≡ 0 }
-        ensures whole { IsFalse result.broken }
+        ensures told { IfOk result (λ segment. history_of segment ≡ record { config = config; events = events; steps = [] }) }
+        ensures drained { IfOk result (λ segment. text_drained segment ≡ []) }
+        ensures clock { IfOk result (λ segment. segment.tick ≡ 0) }
+        ensures faults { IfOk result (λ segment. segment.faults ≡ 0) }
+        ensures handed { IfOk result (λ segment. segment.handed ≡ 0) }
+        ensures whole { IfOk result (λ segment. IsFalse segment.broken) }
     {
-        Segment {
+        let server = Server::new(alloc, config)?;
+        Ok(Segment {
             alloc,
-            server: Server::new(alloc, config),
+            server,
             events,
             flight: Vec::new(alloc),
             kept: Vec::new(alloc),
@@ -83,7 +85,7 @@ impl Segment {
             drained: 0,
             faults: 0,
             handed: 0,
-        }
+        })
     }
 
     /// What holds of every segment, whatever calls were made: it does nothing.

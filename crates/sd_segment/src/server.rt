@@ -10,6 +10,7 @@ use crate::reply::reply;
 use crate::sessions::{
     Answer, Change, Sending, drop_session, first_due, push_session, put_session,
 };
+use crate::setup::Setup;
 use crate::tftp::block_packet;
 use sd_link::Config;
 use sd_outside::{NoMemory, Packet};
@@ -19,7 +20,7 @@ use std::marker::Model;
 /// A boot server, seen as its configuration and its part of the world.
 #[derive(Drop)]
 pub struct Server {
-    config: Config,
+    config: Setup,
     sessions: Vec<Sending>,
     /// How many sessions were made.
     made: u64,
@@ -36,22 +37,23 @@ impl Model for Server {
 }
 
 impl Server {
-    /// A server that was just opened. It takes no memory.
-    pub fn new(alloc: Global, config: Config) -> Server
+    /// A server that was just opened.
+    pub fn new(alloc: Global, config: Config) -> Result<Server, NoMemory>
         requires { IsConfig config }
-        ensures { result ≡ record { config = config; part = first_part config } }
+        ensures { IfOk result (λ server. server ≡ record { config = config; part = first_part config }) }
     {
-        Server {
+        let config = Setup::new(alloc, config)?;
+        Ok(Server {
             config,
             sessions: Vec::new(alloc),
             made: 0,
-        }
+        })
     }
 
     pub fn config(&self) -> &Config
         ensures { result.now ≡ self.now.config }
     {
-        &self.config
+        self.config.config()
     }
 
     /// What it does with a packet.
@@ -73,7 +75,7 @@ impl Server {
         ensures next { IfSome result (λ s. IsNext self.now.config self.now.part tick s) }
         ensures rests { result ≡ None → dues self.now.config tick self.now.part ≡ [] }
     {
-        first_due(&self.config, self.sessions.as_slice(), tick)
+        first_due(self.config.config(), self.sessions.as_slice(), tick)
     }
 
     /// The present block of a session.
@@ -81,7 +83,7 @@ impl Server {
         requires { IsSending self.now.config session.now }
         ensures { IfOk result (λ out. out ≡ block_packet self.now.config (session_of self.now.config session.now)) }
     {
-        block_packet(alloc, &self.config, session)
+        block_packet(alloc, self.config.config(), session)
     }
 
     /// A session begins; the oldest of sixteen ends. No memory holds the packets of more sessions than there are numbers.

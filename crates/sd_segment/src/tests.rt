@@ -1,9 +1,11 @@
 //! The segment under a small client, which follows schedules.
 
+mod calls;
 mod schedules;
 mod transfers;
 
 use crate::Segment;
+use calls::{CALLS, LINES};
 use schedules::SCHEDULES;
 use sd_link::{Link, LinkError};
 use sd_outside::{ByteList, NoMemory};
@@ -90,7 +92,7 @@ fn text_of(alloc: Global, life: &[u8], events: &[u8]) -> Result<ByteList, NoMemo
 fn record_of(alloc: Global, life: &[u8], events: &[u8], acts: &[u8]) -> Option<ByteList> {
     let text = text_of(alloc, life, events).ok()?;
     let script = read_script(alloc, text.as_slice()).ok()?;
-    let mut segment = Segment::new(alloc, script.config, script.events);
+    let mut segment = Segment::new(alloc, script.config, script.events).ok()?;
     let mut record = ByteList::empty(alloc);
     for act in acts.split(|byte| *byte == b' ') {
         perform(alloc, &mut segment, act).ok()?;
@@ -149,7 +151,7 @@ fn take_part(alloc: Global, segment: &mut Segment, act: &[u8]) -> Result<(), Lin
 fn transfer_of(alloc: Global, events: &[u8], acts: &[u8]) -> Option<ByteList> {
     let text = text_of(alloc, b"10", events).ok()?;
     let script = read_script(alloc, text.as_slice()).ok()?;
-    let mut segment = Segment::new(alloc, script.config, script.events);
+    let mut segment = Segment::new(alloc, script.config, script.events).ok()?;
     let mut record = ByteList::empty(alloc);
     for act in acts.split(|byte| *byte == b',') {
         take_part(alloc, &mut segment, act).ok()?;
@@ -163,6 +165,73 @@ fn follows_transfers(rt: HostRuntime) -> Result<(), Fail> {
     for (place, (events, acts, record)) in TRANSFERS.iter().enumerate() {
         let want = whole(rt.alloc(), record)?;
         match transfer_of(rt.alloc(), events, acts) {
+            Some(got) => assert_eq!(rt; got.as_slice(), want.as_slice(), "row {place}"),
+            None => assert!(rt; false, "refused: row {place}"),
+        }
+    }
+    Ok(())
+}
+
+/// Sends a datagram, and the record then.
+fn call_of(alloc: Global, address: &[u8], port: &[u8], body: &[u8]) -> Option<ByteList> {
+    let text = text_of(alloc, b"10", LINES).ok()?;
+    let script = read_script(alloc, text.as_slice()).ok()?;
+    let mut segment = Segment::new(alloc, script.config, script.events).ok()?;
+    let line = datagram(alloc, b"192.168.1.2", b"1021", address, port, body).ok()?;
+    send(alloc, &mut segment, line.as_slice()).ok()?;
+    receive(&mut segment, 5, 100).ok()?;
+    let mut record = ByteList::empty(alloc);
+    segment.drain(&mut record).ok()?;
+    Some(record)
+}
+
+fn datagram(
+    alloc: Global,
+    from: &[u8],
+    from_port: &[u8],
+    to: &[u8],
+    to_port: &[u8],
+    body: &[u8],
+) -> Result<ByteList, NoMemory> {
+    let mut line = ByteList::from_slice(alloc, b"udp ")?;
+    line.push_slice(from)?;
+    line.push_slice(b":")?;
+    line.push_slice(from_port)?;
+    line.push_slice(b" ")?;
+    line.push_slice(to)?;
+    line.push_slice(b":")?;
+    line.push_slice(to_port)?;
+    line.push_slice(b" ")?;
+    line.push_slice(body)?;
+    Ok(line)
+}
+
+/// The record of a datagram and its reply, where there is one.
+fn called(
+    alloc: Global,
+    address: &[u8],
+    port: &[u8],
+    body: &[u8],
+    reply: &[u8],
+) -> Result<ByteList, NoMemory> {
+    let mut text = ByteList::from_slice(alloc, b"sent 0 0 ")?;
+    let asked = datagram(alloc, b"192.168.1.2", b"1021", address, port, body)?;
+    text.push_slice(asked.as_slice())?;
+    text.push_slice(b"\nserved 1 0\n")?;
+    if !reply.is_empty() {
+        text.push_slice(b"sent 1 1 ")?;
+        let answer = datagram(alloc, b"192.168.1.1", port, b"192.168.1.2", b"1021", reply)?;
+        text.push_slice(answer.as_slice())?;
+        text.push_slice(b"\ngot 2 1\n")?;
+    }
+    Ok(text)
+}
+
+#[test]
+fn answers_calls(rt: HostRuntime) -> Result<(), Fail> {
+    for (place, (address, port, body, reply)) in CALLS.iter().enumerate() {
+        let want = called(rt.alloc(), address, port, body, reply)?;
+        match call_of(rt.alloc(), address, port, body) {
             Some(got) => assert_eq!(rt; got.as_slice(), want.as_slice(), "row {place}"),
             None => assert!(rt; false, "refused: row {place}"),
         }

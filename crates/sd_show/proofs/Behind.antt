@@ -1,22 +1,20 @@
 -- What stands behind the parts that were taken.
 use Rattle.std.proofs.Common.{◌≡◌, ℕ, List, [], ◌∷◌, ◌++◌, refl, sym, ap, subst, ◌∙◌, arith, inl}
-use Rattle.std.specs.Prelude.{codes}
 use Rattle.std.specs.List.{join_with_byte}
 use Rattle.std.specs.Fmt.{decimal}
 use Rattle.std.proofs.lemmas.List.Splits.{join_with_byte-slice_split}
 use Rattle.sd_rpc_msg.specs.declared.message.OpaqueAuth.{OpaqueAuth}
-use Rattle.sd_rpc_msg.specs.declared.message.Call.{Call}
 use Rattle.sd_rpc_msg.specs.Laws.{IsWord}
 use Rattle.sd_link.specs.Texts.{Text}
 use Rattle.sd_script.specs.Texts.{cut, IsNumber}
-use Rattle.sd_script.specs.Runs.{IsRuns, IsRunsWithin}
+use Rattle.sd_script.specs.Runs.{IsRuns}
 use Rattle.sd_script.proofs.Exits.{firsts, others}
 use Rattle.sd_script.proofs.NumberLemmas.{one_number}
 use Rattle.sd_script.proofs.ItemLemmas.{one_runs}
 use Rattle.sd_script.proofs.ReadBack.{Lacks, cut_joined, decimal_lacks}
-use Rattle.sd_show.specs.declared.packing.Procedure.{Procedure}
-use Rattle.sd_show.specs.Parts.{Part, exact, run, auth_parts, procedure_text, BeginWith}
-use Rattle.sd_show.specs.Packing.{BodyStands, AuthStands, AuthsStand, IsProcedure, CallStands, IsCall}
+use Rattle.sd_show.specs.declared.procedures.Procedure.{Procedure}
+use Rattle.sd_show.specs.Parts.{Part, exact, run, procedure_text, BeginWith}
+use Rattle.sd_show.specs.Packing.{BodyStands, AuthStands, IsProcedure}
 
 -- parts stand where each half does
 pub split : (ps qs : List Part) (old new : List Text) → BeginWith (ps ++ qs) old new → (mid : List Text) × BeginWith ps old mid × BeginWith qs mid new
@@ -82,34 +80,3 @@ procedure_again text p prog vers proc_no e = record {
 
 pub procedure_shown : (text : Text) (p : Procedure) → IsProcedure text p → text ≡ procedure_text p.prog p.vers p.proc_no
 procedure_shown text p h = sym (join_with_byte-slice_split 47 text) ∙ ap (join_with_byte 47) h.parts
-
--- ---- a call
-
--- what stands behind a call's arguments
-pub auths_behind : (c : Call) (old mid rest : List Text) → IsCall c → mid ≡ old → BeginWith (auth_parts (codes "cred") c.cred ++ auth_parts (codes "verf") c.verf) old rest → AuthsStand (c.cred, c.verf) mid rest
-auths_behind c old mid rest is e h =
-    let s = split (auth_parts (codes "cred") c.cred) (auth_parts (codes "verf") c.verf) mid rest (subst (λ (u : List Text). BeginWith (auth_parts (codes "cred") c.cred ++ auth_parts (codes "verf") c.verf) u rest) (sym e) h) in
-    (s.0, (is.0.4, s.1), (is.0.5, s.2))
-
--- a call from its parts
-pub call_stands : (c : Call) (xid procedure args : Text) (p : Procedure) (old a b d new : List Text)
-    → old ≡ xid ∷ a → IsNumber 0 4294967295 xid c.xid
-    → a ≡ procedure ∷ b → IsProcedure procedure p → procedure_text p.prog p.vers p.proc_no ≡ procedure_text c.prog c.vers c.proc_no → IsWord c.prog → IsWord c.vers → IsWord c.proc_no
-    → b ≡ args ∷ d → IsRunsWithin 9216 args c.args
-    → AuthsStand (c.cred, c.verf) d new → CallStands c old new
-call_stands c xid procedure args p old a b d new e is_xid f is_procedure same prog vers proc_no g is_args auths = (
-  ((word_is xid c.xid is_xid, prog, vers, proc_no, auths.1.0, auths.2.0), is_args.within),
-  (
-    xid,
-    a,
-    e,
-    is_xid.is,
-    (
-      procedure,
-      b,
-      f,
-      procedure_shown procedure p is_procedure ∙ same,
-      (args, d, g, is_args.is, joined (auth_parts (codes "cred") c.cred) (auth_parts (codes "verf") c.verf) d auths.0 new auths.1.1 auths.2.1),
-    ),
-  ),
-)

@@ -1,5 +1,5 @@
 -- The text of a whole packet, in the words of its readers and in those of the definition.
-use Rattle.std.proofs.Common.{◌≡◌, ℕ, ◌<◌, ◌≤◌, ◌^◌, List, [], ◌∷◌, ◌++◌, length, refl, sym, ap, subst, ◌∙◌, arith, codes, inl, inr}
+use Rattle.std.proofs.Common.{◌≡◌, ◌⊎◌, ℕ, ◌<◌, ◌≤◌, ◌^◌, List, [], ◌∷◌, ◌++◌, length, refl, sym, ap, subst, ◌∙◌, arith, codes, inl, inr}
 use Rattle.std.specs.List.{join_with_byte}
 use Rattle.std.proofs.lemmas.List.Splits.{join_with_byte-slice_split}
 use Rattle.sd_outside.specs.declared.packet.Mac.{Mac}
@@ -7,23 +7,23 @@ use Rattle.sd_outside.specs.declared.packet.Addr.{Addr}
 use Rattle.sd_outside.specs.declared.packet.Packet.{Packet}
 use Rattle.sd_outside.specs.declared.packet.Packet.TheVariants.{Frame, Udp}
 use Rattle.sd_outside.specs.Bytes as outside
-use Rattle.sd_xdr.specs.Kind.{whole}
-use Rattle.sd_xdr.specs.Grammar.{Reads, writes}
+use Rattle.sd_xdr.specs.Grammar.{writes}
 use Rattle.sd_rpc_msg.specs.Layout.{message, message_value}
-use Rattle.sd_rpc_msg.proofs.Told.{written_is_read_again, one_spelling_of}
+use Rattle.sd_tftp.specs.Grammar.{packet_bytes}
 use Rattle.sd_rarp.specs.declared.frame.RarpFrame.{RarpFrame}
 use Rattle.sd_rarp.specs.declared.frame.RarpFrame.TheVariants.{Request, Reply}
 use Rattle.sd_link.specs.Texts.{Text, mac_text, ip_text, addr_text}
 use Rattle.sd_script.specs.Texts.{IsIp, IsAddr}
 use Rattle.sd_script.specs.Packets.{AddrFits}
 use Rattle.sd_script.proofs.ReadBack.{ip_again, addr_again}
-use Rattle.sd_show.specs.Parts.{mac_part, ip_part, kind_parts, BeginWith}
-use Rattle.sd_show.specs.Shown.{IsFrame, PacksParts}
+use Rattle.sd_show.specs.Parts.{Part, mac_part, ip_part, kind_parts, BeginWith}
+use Rattle.sd_show.specs.Messages.{message_parts, datagram_parts}
+use Rattle.sd_show.specs.Shown.{IsFrame, file_parts, PacksFile, PacksMessage, PacksWords}
 use Rattle.sd_show.specs.Frames.{NamedMac, NamedIp, MacsStand, HostStands, FrameStands}
-use Rattle.sd_show.specs.Packing.{IsDatagramText, IsFrameText, IsPacketText}
+use Rattle.sd_show.specs.Packing.{IsFileText, IsMessageText, IsDatagramText, IsFrameText, IsPacketText}
 use Rattle.sd_show.proofs.Behind.{split, joined}
 use Rattle.sd_show.proofs.Choices.{word_first}
-use Rattle.sd_show.proofs.Stands.{message_stands, message_taken, is_short}
+use Rattle.sd_show.proofs.Stands.{message_stands, message_taken, short_body}
 
 -- ---- addresses
 
@@ -125,64 +125,122 @@ frame_taken (Reply dst src sender sender_ip target target_ip) old new is h =
 
 -- ---- packets
 
-datagram_packs : (parts rest : List Text) (packet : Packet) → parts ≡ codes "udp" ∷ rest → IsDatagramText rest packet → PacksParts parts packet
-datagram_packs parts rest packet e h =
-    let m = message_stands h.m h.rest [] h.stands in
-    let spelled : Reads whole message (writes message (message_value h.m)) (message_value h.m) = (written_is_read_again h.m h.m m.is).1 refl in
-    subst (PacksParts parts) (sym h.is.means) (
-      h.m,
-      record {
-        is = record { other = h.is.other; reads = spelled };
-        from = addr_fits h.from h.src h.is_src;
-        to = addr_fits h.to h.dst h.is_dst;
-        short = h.is.short;
-        text = (
-          codes "udp",
-          rest,
-          e,
-          refl,
-          (h.from, h.to ∷ h.rest, h.text, addr_shown h.from h.src h.is_src, (h.to, h.rest, refl, addr_shown h.to h.dst h.is_dst, m.parts)),
-        );
-      },
-    )
+-- what stands behind two addresses
+ends_stand : (src dst : Addr) (ps : List Part) (parts rest : List Text) → parts ≡ codes "udp" ∷ rest → (from to : Text) (behind : List Text) → rest ≡ from ∷ to ∷ behind → IsAddr from src → IsAddr to dst
+    → BeginWith ps behind [] → BeginWith (datagram_parts src dst ps) parts []
+ends_stand src dst ps parts rest e from to behind text is_src is_dst h =
+    (codes "udp", rest, e, refl, (from, to ∷ behind, text, addr_shown from src is_src, (to, behind, refl, addr_shown to dst is_dst, h)))
 
-frame_packs : (parts rest : List Text) (packet : Packet) → parts ≡ codes "rarp" ∷ rest → IsFrameText rest packet → PacksParts parts packet
+datagram_packs : (parts rest : List Text) (packet : Packet) → parts ≡ codes "udp" ∷ rest → IsDatagramText rest packet → PacksWords parts packet
+datagram_packs parts rest packet e h = of h.content
+  where
+    of : ((h.word ≡ codes "tftp") × IsFileText h.src h.dst h.rest packet) ⊎ IsMessageText h.src h.dst h.word h.rest packet → PacksWords parts packet
+    of (inl f) =
+        let p = f.1.0 in
+        let stands = f.1.1 in
+        let is = f.1.2 in
+        let read = ends_stand h.src h.dst (file_parts p) parts rest e h.from h.to (h.word ∷ h.rest) h.text h.is_src h.is_dst (h.word, h.rest, refl, f.0, stands.parts) in
+        subst (PacksWords parts) (sym is.means)
+        (addr_fits h.from h.src h.is_src, addr_fits h.to h.dst h.is_dst, is.short, inl record { p = p; port = is.port; range = stands.range; fits = stands.fits; written = refl; text = read })
+    of (inr m) =
+        let t = message_stands h.word m.0 h.rest [] m.1 in
+        let is = m.2 in
+        let read = ends_stand h.src h.dst (message_parts m.0 t.b) parts rest e h.from h.to (h.word ∷ h.rest) h.text h.is_src h.is_dst t.parts in
+        subst (PacksWords parts) (sym is.means)
+        (addr_fits h.from h.src h.is_src, addr_fits h.to h.dst h.is_dst, is.short, inr record { m = m.0; b = t.b; other = is.other; is = t.is; body = t.body; written = refl; text = read })
+
+frame_packs : (parts rest : List Text) (packet : Packet) → parts ≡ codes "rarp" ∷ rest → IsFrameText rest packet → PacksWords parts packet
 frame_packs parts rest packet e h =
     let f = frame_stands h.f rest [] h.stands in
-    subst (PacksParts parts) (sym h.means) (h.f, record { is = f.0; written = refl; text = (codes "rarp", rest, e, refl, f.1) })
+    subst (PacksWords parts) (sym h.means) (h.f, record { is = f.0; written = refl; text = (codes "rarp", rest, e, refl, f.1) })
 
-pub packet_packs : (parts : List Text) (packet : Packet) → IsPacketText parts packet → PacksParts parts packet
+pub packet_packs : (parts : List Text) (packet : Packet) → IsPacketText parts packet → PacksWords parts packet
 packet_packs parts packet h = elim h.1 [
   | inl u ↦ datagram_packs parts h.0 packet u.0 u.1
   | inr f ↦ frame_packs parts h.0 packet f.0 f.1
 ]
 
-pub packet_reads : (parts : List Text) (packet : Packet) → PacksParts parts packet → IsPacketText parts packet
-packet_reads parts (Udp src dst body) h =
-    let d = h.1 in
-    let x = d.text in
-    let y = x.4 in
+-- the addresses of a datagram, and what stands behind them
+record EndsRead (src dst : Addr) (ps : List Part) (parts : List Text) : Type 0 where
+  rest : List Text
+  from : Text
+  to : Text
+  behind : List Text
+  first : parts ≡ codes "udp" ∷ rest
+  text : rest ≡ from ∷ to ∷ behind
+  is_src : IsAddr from src
+  is_dst : IsAddr to dst
+  left : BeginWith ps behind []
+
+ends_read : (src dst : Addr) (ps : List Part) (parts : List Text) → AddrFits src → AddrFits dst → BeginWith (datagram_parts src dst ps) parts [] → EndsRead src dst ps parts
+ends_read src dst ps parts from to h =
+    let y = h.4 in
     let z = y.4 in
-    let spelled = one_spelling_of h.0 body d.is.reads in
-    let short : length (writes message (message_value h.0)) ≤ 9216 = subst (λ (bs : List ℕ). length bs ≤ 9216) spelled.0 d.short in (
-      x.1,
+    record {
+      rest = h.1;
+      from = y.0;
+      to = z.0;
+      behind = z.1;
+      first = word_first h.0 h.1 parts h.2 h.3;
+      text = y.2 ∙ ap (λ (u : List Text). y.0 ∷ u) z.2;
+      is_src = addr_read y.0 src from y.3;
+      is_dst = addr_read z.0 dst to z.3;
+      left = z.4;
+    }
+
+file_reads : (parts : List Text) (src dst : Addr) (content : List ℕ) → AddrFits src → AddrFits dst → length content ≤ 9216 → PacksFile parts src dst content → IsPacketText parts (Udp src dst content)
+file_reads parts src dst content from to few h =
+    let e = ends_read src dst (file_parts h.p) parts from to h.text in
+    let w = e.left in
+    let short : length (packet_bytes h.p) ≤ 9216 = subst (λ (bs : List ℕ). length bs ≤ 9216) h.written few in (
+      e.rest,
       inl (
-        word_first x.0 x.1 parts x.2 x.3,
+        e.first,
         record {
           src = src;
           dst = dst;
-          m = h.0;
-          from = y.0;
-          to = z.0;
-          rest = z.1;
-          text = y.2 ∙ ap (λ (u : List Text). y.0 ∷ u) z.2;
-          is_src = addr_read y.0 src d.from y.3;
-          is_dst = addr_read z.0 dst d.to z.3;
-          stands = message_taken h.0 z.1 [] spelled.1 (is_short h.0 short) z.4;
-          is = record { other = d.is.other; short = short; means = ap (λ (bs : List ℕ). Udp src dst bs) spelled.0 };
+          from = e.from;
+          to = e.to;
+          word = w.0;
+          rest = w.1;
+          text = e.text ∙ ap (λ (u : List Text). e.from ∷ e.to ∷ u) w.2;
+          is_src = e.is_src;
+          is_dst = e.is_dst;
+          content = inl (w.3, (h.p, record { range = h.range; fits = h.fits; parts = w.4 }, record { port = h.port; short = short; means = ap (λ (bs : List ℕ). Udp src dst bs) h.written }));
         },
       ),
     )
+
+message_reads : (parts : List Text) (src dst : Addr) (content : List ℕ) → AddrFits src → AddrFits dst → length content ≤ 9216 → PacksMessage parts src dst content → IsPacketText parts (Udp src dst content)
+message_reads parts src dst content from to few h =
+    let e = ends_read src dst (message_parts h.m h.b) parts from to h.text in
+    let short : length (writes message (message_value h.m)) ≤ 9216 = subst (λ (bs : List ℕ). length bs ≤ 9216) h.written few in
+    let t = message_taken h.m h.b e.behind [] h.is h.body (short_body h.m h.b h.body short) e.left in (
+      e.rest,
+      inl (
+        e.first,
+        record {
+          src = src;
+          dst = dst;
+          from = e.from;
+          to = e.to;
+          word = t.word;
+          rest = t.rest;
+          text = e.text ∙ ap (λ (u : List Text). e.from ∷ e.to ∷ u) t.text;
+          is_src = e.is_src;
+          is_dst = e.is_dst;
+          content = inr (h.m, t.stands, record { other = h.other; short = short; means = ap (λ (bs : List ℕ). Udp src dst bs) h.written });
+        },
+      ),
+    )
+
+datagram_reads : (parts : List Text) (src dst : Addr) (content : List ℕ) → AddrFits src → AddrFits dst → length content ≤ 9216 → PacksFile parts src dst content ⊎ PacksMessage parts src dst content
+    → IsPacketText parts (Udp src dst content)
+datagram_reads parts src dst content from to few (inl h) = file_reads parts src dst content from to few h
+datagram_reads parts src dst content from to few (inr h) = message_reads parts src dst content from to few h
+
+pub packet_reads : (parts : List Text) (packet : Packet) → PacksWords parts packet → IsPacketText parts packet
+packet_reads parts (Udp src dst content) h = datagram_reads parts src dst content h.0 h.1 h.2 h.3
 packet_reads parts (Frame bytes) h =
     let d = h.1 in
     let x = d.text in

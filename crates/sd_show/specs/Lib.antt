@@ -1,6 +1,17 @@
+pub mod Forms
+pub mod Fields
+pub mod Programs
+pub mod Shapes
+pub mod Words
 pub mod Parts
+pub mod Calls
+pub mod Exchanges
+pub mod Messages
 pub mod Shown
 pub mod Refused
 pub mod Frames
 pub mod Packing
+pub mod Saying
+pub mod Files
+pub mod Showing
 pub mod Laws

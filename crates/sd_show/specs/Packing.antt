@@ -1,10 +1,13 @@
 -- Words for the functions that write and read the parts of a text.
-use Rattle.std.specs.Prelude.{◌≡◌, ◌⊎◌, ℕ, ◌≤◌, IsFalse, List, [], ◌∷◌, ◌++◌, length, codes, Result, Ok, Err}
+use Rattle.std.specs.Prelude.{◌≡◌, ◌⊎◌, ℕ, ◌≤◌, IsTrue, IsFalse, List, [], ◌∷◌, ◌++◌, length, codes, Result, Ok, Err}
 use Rattle.std.specs.Fmt.{decimal}
 use Rattle.sd_outside.specs.declared.packet.Addr.{Addr}
 use Rattle.sd_outside.specs.declared.packet.Packet.{Packet}
 use Rattle.sd_outside.specs.declared.packet.Packet.TheVariants.{Frame, Udp}
-use Rattle.sd_xdr.specs.Grammar.{writes}
+use Rattle.sd_xdr.specs.Kind.{Value}
+use Rattle.sd_xdr.specs.Grammar.{writes, HasSpelling}
+use Rattle.sd_tftp.specs.declared.packet.TftpPacket.{TftpPacket}
+use Rattle.sd_tftp.specs.Grammar as tftp
 use Rattle.sd_rarp.specs.declared.frame.RarpFrame.{RarpFrame}
 use Rattle.sd_rarp.specs.Frame.{frame_bytes}
 use Rattle.sd_rpc_msg.specs.declared.message.OpaqueAuth.{OpaqueAuth}
@@ -20,10 +23,15 @@ use Rattle.sd_link.specs.Texts.{Text}
 use Rattle.sd_script.specs.Texts.{cut, IsAddr}
 use Rattle.sd_script.specs.declared.error.LineError.{LineError}
 use Rattle.sd_script.specs.Reading.{OnOutside}
-use Rattle.sd_show.specs.declared.packing.Procedure.{Procedure}
+use Rattle.sd_show.specs.declared.procedures.Procedure.{Procedure}
+use Rattle.sd_show.specs.declared.procedures.Known.{Known}
 use Rattle.sd_show.specs.Shown.{is_tftp}
 use Rattle.sd_show.specs.Frames.{FrameStands}
-use Rattle.sd_show.specs.Parts.{Part, exact, run, part_text, auth_parts, procedure_text, BeginWith}
+use Rattle.sd_show.specs.Parts.{Part, exact, run, part_text, auth_parts, tftp_parts, BeginWith}
+use Rattle.sd_show.specs.Fields.{fields_parts}
+use Rattle.sd_show.specs.Programs.{known_text, results_kind, results}
+use Rattle.sd_show.specs.Calls.{procedure_of}
+use Rattle.sd_show.specs.Messages.{Body, bare, read_as, AreWrittenArgs, asked_parts}
 
 -- parts behind others, a space before each
 abbrev pub spaced : List Part → Text
@@ -56,38 +64,47 @@ pub record IsProcedure (text : Text) (p : Procedure) : Type 0 where
   pub vers : IsWord p.vers
   pub proc_no : IsWord p.proc_no
 
--- what is left behind the fixed fields is no longer than a datagram
-abbrev pub IsCall : Call → Type 0
-IsCall c = IsMessage (Asked c) × (length c.args ≤ 9216)
+-- bytes that are not read are no longer than a datagram
+abbrev pub IsShortBody : Body → Type 0
+IsShortBody (bare bs) = length bs ≤ 9216
+IsShortBody (read_as k x) = Unit {0}
 
-abbrev pub IsShortOutcome : Outcome → Type 0
-IsShortOutcome (Success verf results) = length results ≤ 9216
-IsShortOutcome (ProgUnavail verf) = Unit {0}
-IsShortOutcome (ProgMismatch verf low high) = Unit {0}
-IsShortOutcome (ProcUnavail verf) = Unit {0}
-IsShortOutcome (GarbageArgs verf) = Unit {0}
-IsShortOutcome (RpcMismatch low high) = Unit {0}
-IsShortOutcome (AuthError stat) = Unit {0}
+-- the numbers of a procedure are words
+abbrev pub AreWords : Procedure → Type 0
+AreWords p = IsWord p.prog × IsWord p.vers × IsWord p.proc_no
 
-abbrev pub IsShort : Message → Type 0
-IsShort (Asked c) = length c.args ≤ 9216
-IsShort (Answered r) = IsShortOutcome r.outcome
+-- what is asked, with the arguments as they are written
+abbrev pub AskedStands : Procedure × List ℕ → List Text → List Text → Type 0
+AskedStands asked old new = AreWords asked.0 × (b : Body) × AreWrittenArgs asked.0 asked.1 b × IsShortBody b × BeginWith (asked_parts asked.0 b) old new
 
--- XID PROG/VERS/PROC BYTES cred FLAVOR BYTES verf FLAVOR BYTES
-abbrev pub CallStands : Call → List Text → List Text → Type 0
-CallStands c old new = IsCall c × BeginWith (
-    exact (decimal c.xid) ∷ exact (procedure_text c.prog c.vers c.proc_no) ∷ run c.args
-    ∷ (auth_parts (codes "cred") c.cred ++ auth_parts (codes "verf") c.verf)
-    ) old new
+-- XID, what is asked, cred FLAVOR BYTES verf FLAVOR BYTES
+pub record CallStands (c : Call) (old new : List Text) : Type 0 where
+  pub b : Body
+  pub is : IsMessage (Asked c)
+  pub body : AreWrittenArgs (procedure_of c) c.args b
+  pub short : IsShortBody b
+  pub parts : BeginWith (exact (decimal c.xid) ∷ (asked_parts (procedure_of c) b ++ (auth_parts (codes "cred") c.cred ++ auth_parts (codes "verf") c.verf))) old new
 
 -- the two authentications of a call
 abbrev pub AuthsStand : OpaqueAuth × OpaqueAuth → List Text → List Text → Type 0
 AuthsStand both old new = (mid : List Text) × AuthStands (codes "cred") both.0 old mid × AuthStands (codes "verf") both.1 mid new
 
+-- verf FLAVOR BYTES success, and what follows
+abbrev pub DoneStands : OpaqueAuth → List Part → List Text → List Text → Type 0
+DoneStands verf behind old new = (mid : List Text) × AuthStands (codes "verf") verf old mid × BeginWith (exact (codes "success") ∷ behind) mid new
+
 -- verf FLAVOR BYTES success BYTES
+abbrev pub RawStands : OpaqueAuth × List ℕ → List Text → List Text → Type 0
+RawStands both old new = (length both.1 ≤ 9216) × DoneStands both.0 (run both.1 ∷ []) old new
+
+-- verf FLAVOR BYTES success FIELDS
+abbrev pub KnownStands : Known → OpaqueAuth × List ℕ → List Text → List Text → Type 0
+KnownStands k both old new = (x : Value) × HasSpelling (results_kind k) x × (both.1 ≡ writes (results_kind k) x) × DoneStands both.0 (fields_parts (results k) x) old new
+
+-- what follows the number of a reply to a call that was done
 abbrev pub SuccessStands : OpaqueAuth × List ℕ → List Text → List Text → Type 0
-SuccessStands both old new = (length both.1 ≤ 9216) × (mid : List Text) × AuthStands (codes "verf") both.0 old mid
-    × BeginWith (exact (codes "success") ∷ run both.1 ∷ []) mid new
+SuccessStands both old new = (mid : List Text)
+    × (((old ≡ codes "raw" ∷ mid) × RawStands both mid new) ⊎ ((k : Known) × (old ≡ known_text k ∷ mid) × KnownStands k both mid new))
 
 -- LOW HIGH
 abbrev pub RangeStands : ℕ × ℕ → List Text → List Text → Type 0
@@ -109,7 +126,7 @@ AcceptedStands o old new = (verf : OpaqueAuth) × (mid : List Text) × BodyStand
 
 -- what follows the number of a reply
 abbrev pub OutcomeStands : Outcome → List Text → List Text → Type 0
-OutcomeStands (Success verf results) old new = (mid : List Text) × (old ≡ codes "raw" ∷ mid) × SuccessStands (verf, results) mid new
+OutcomeStands (Success verf bs) old new = SuccessStands (verf, bs) old new
 OutcomeStands (ProgUnavail verf) old new = (mid : List Text) × (old ≡ codes "verf" ∷ mid) × AcceptedStands (ProgUnavail verf) mid new
 OutcomeStands (ProgMismatch verf low high) old new = (mid : List Text) × (old ≡ codes "verf" ∷ mid) × AcceptedStands (ProgMismatch verf low high) mid new
 OutcomeStands (ProcUnavail verf) old new = (mid : List Text) × (old ≡ codes "verf" ∷ mid) × AcceptedStands (ProcUnavail verf) mid new
@@ -121,9 +138,16 @@ OutcomeStands (AuthError stat) old new = (1 ≤ stat) × (stat ≤ 5) × BeginWi
 abbrev pub ReplyStands : Reply → List Text → List Text → Type 0
 ReplyStands r old new = IsWord r.xid × ((mid : List Text) × (old ≡ decimal r.xid ∷ mid) × OutcomeStands r.outcome mid new)
 
-abbrev pub MessageStands : Message → List Text → List Text → Type 0
-MessageStands (Asked c) old new = (mid : List Text) × (old ≡ codes "call" ∷ mid) × CallStands c mid new
-MessageStands (Answered r) old new = (mid : List Text) × (old ≡ codes "reply" ∷ mid) × ReplyStands r mid new
+-- what follows this word
+abbrev pub MessageStands : Text → Message → List Text → List Text → Type 0
+MessageStands word (Asked c) old new = (word ≡ codes "call") × CallStands c old new
+MessageStands word (Answered r) old new = (word ≡ codes "reply") × ReplyStands r old new
+
+-- what follows `tftp`
+pub record FileStands (p : TftpPacket) (old new : List Text) : Type 0 where
+  pub range : tftp.IsInRange p
+  pub fits : tftp.HasSpelling p
+  pub parts : BeginWith (tftp_parts p) old new
 
 -- ---- whole texts
 
@@ -133,19 +157,32 @@ pub record IsDatagramOf (src dst : Addr) (m : Message) (packet : Packet) : Type 
   pub short : length (writes message (message_value m)) ≤ 9216
   pub means : packet ≡ Udp src dst (writes message (message_value m))
 
+-- the datagram of a packet of TFTP
+pub record IsDatagramOfFile (src dst : Addr) (p : TftpPacket) (packet : Packet) : Type 0 where
+  pub port : IsTrue (is_tftp src dst)
+  pub short : length (tftp.packet_bytes p) ≤ 9216
+  pub means : packet ≡ Udp src dst (tftp.packet_bytes p)
+
+-- what follows `udp ADDR ADDR tftp`
+abbrev pub IsFileText : Addr → Addr → List Text → Packet → Type 0
+IsFileText src dst texts packet = (p : TftpPacket) × FileStands p texts [] × IsDatagramOfFile src dst p packet
+
+-- what follows `udp ADDR ADDR` and this word
+abbrev pub IsMessageText : Addr → Addr → Text → List Text → Packet → Type 0
+IsMessageText src dst word texts packet = (m : Message) × MessageStands word m texts [] × IsDatagramOf src dst m packet
+
 -- what follows `udp`
 pub record IsDatagramText (parts : List Text) (packet : Packet) : Type 0 where
   pub src : Addr
   pub dst : Addr
-  pub m : Message
   pub from : Text
   pub to : Text
+  pub word : Text
   pub rest : List Text
-  pub text : parts ≡ from ∷ to ∷ rest
+  pub text : parts ≡ from ∷ to ∷ word ∷ rest
   pub is_src : IsAddr from src
   pub is_dst : IsAddr to dst
-  pub stands : MessageStands m rest []
-  pub is : IsDatagramOf src dst m packet
+  pub content : ((word ≡ codes "tftp") × IsFileText src dst rest packet) ⊎ IsMessageText src dst word rest packet
 
 -- what follows `rarp`
 pub record IsFrameText (parts : List Text) (packet : Packet) : Type 0 where

@@ -2,26 +2,25 @@
 use Rattle.std.specs.Prelude.{◌≡◌, ℕ, List, [], ◌∷◌, ◌++◌, map, codes}
 use Rattle.std.specs.List.{join_with_byte}
 use Rattle.std.specs.Fmt.{decimal}
-use Rattle.sd_outside.specs.declared.packet.Addr.{Addr}
 use Rattle.sd_outside.specs.declared.packet.Mac.{Mac}
 use Rattle.sd_rarp.specs.declared.frame.RarpFrame.{RarpFrame}
 use Rattle.sd_rarp.specs.declared.frame.RarpFrame.TheVariants as frames
 use Rattle.sd_rpc_msg.specs.declared.message.OpaqueAuth.{OpaqueAuth}
-use Rattle.sd_rpc_msg.specs.declared.message.Call.{Call}
-use Rattle.sd_rpc_msg.specs.declared.message.Outcome.{Outcome}
-use Rattle.sd_rpc_msg.specs.declared.message.Outcome.TheVariants.{Success, ProgUnavail, ProgMismatch, ProcUnavail, GarbageArgs, RpcMismatch, AuthError}
-use Rattle.sd_rpc_msg.specs.declared.message.Message.{Message}
-use Rattle.sd_rpc_msg.specs.declared.message.Message.TheVariants.{Asked, Answered}
-use Rattle.sd_link.specs.Texts.{Text, mac_text, ip_text, addr_text}
+use Rattle.sd_tftp.specs.declared.packet.TftpPacket.{TftpPacket}
+use Rattle.sd_tftp.specs.declared.packet.TftpPacket.TheVariants as tftp
+use Rattle.sd_xdr.specs.Kind.{Value, bytes}
+use Rattle.sd_link.specs.Texts.{Text, mac_text, ip_text}
 use Rattle.sd_link.specs.Runs.{runs_text}
 use Rattle.sd_script.specs.Runs.{IsRuns}
+use Rattle.sd_show.specs.Forms.{Form, as_quoted, form_text, IsFormText}
 
--- a text that stands as it is, or bytes as a byte run
+-- a text that stands as it is, bytes as a byte run, or a value in a form behind a text
 pub data Part : Type 0 where
   exact : Text → Part
   run : List ℕ → Part
+  said : Text → Form → Value → Part
 
--- ---- the parts of each packet
+-- ---- parts of messages
 
 abbrev pub auth_parts : Text → OpaqueAuth → List Part
 auth_parts name a = exact name ∷ exact (decimal a.flavor) ∷ run a.body ∷ []
@@ -30,29 +29,21 @@ auth_parts name a = exact name ∷ exact (decimal a.flavor) ∷ run a.body ∷ [
 abbrev pub procedure_text : ℕ → ℕ → ℕ → Text
 procedure_text prog vers proc_no = join_with_byte 47 (decimal prog ∷ decimal vers ∷ decimal proc_no ∷ [])
 
--- call XID PROG/VERS/PROC BYTES cred FLAVOR BYTES verf FLAVOR BYTES
-abbrev pub call_parts : Call → List Part
-call_parts c =
-    exact (codes "call") ∷ exact (decimal c.xid) ∷ exact (procedure_text c.prog c.vers c.proc_no) ∷ run c.args
-    ∷ (auth_parts (codes "cred") c.cred ++ auth_parts (codes "verf") c.verf)
+-- ---- the parts of a packet of TFTP
 
--- what follows `reply XID`
-abbrev pub outcome_parts : Outcome → List Part
-outcome_parts (Success verf results) = exact (codes "raw") ∷ (auth_parts (codes "verf") verf ++ exact (codes "success") ∷ run results ∷ [])
-outcome_parts (ProgUnavail verf) = auth_parts (codes "verf") verf ++ exact (codes "progunavail") ∷ []
-outcome_parts (ProgMismatch verf low high) = auth_parts (codes "verf") verf ++ exact (codes "progmismatch") ∷ exact (decimal low) ∷ exact (decimal high) ∷ []
-outcome_parts (ProcUnavail verf) = auth_parts (codes "verf") verf ++ exact (codes "procunavail") ∷ []
-outcome_parts (GarbageArgs verf) = auth_parts (codes "verf") verf ++ exact (codes "garbageargs") ∷ []
-outcome_parts (RpcMismatch low high) = exact (codes "rpcmismatch") ∷ exact (decimal low) ∷ exact (decimal high) ∷ []
-outcome_parts (AuthError stat) = exact (codes "autherror") ∷ exact (decimal stat) ∷ []
+-- the longest text of a packet, for all that is known of it here
+abbrev pub quoted_part : List ℕ → Part
+quoted_part text = said [] (as_quoted 9216) (bytes text)
 
-abbrev pub message_parts : Message → List Part
-message_parts (Asked c) = call_parts c
-message_parts (Answered r) = exact (codes "reply") ∷ exact (decimal r.xid) ∷ outcome_parts r.outcome
+-- tftp rrq QUOTED QUOTED, tftp wrq QUOTED QUOTED, tftp block N BYTES, tftp ack N, tftp error N QUOTED
+abbrev pub tftp_parts : TftpPacket → List Part
+tftp_parts (tftp.Rrq name mode) = exact (codes "rrq") ∷ quoted_part name ∷ quoted_part mode ∷ []
+tftp_parts (tftp.Wrq name mode) = exact (codes "wrq") ∷ quoted_part name ∷ quoted_part mode ∷ []
+tftp_parts (tftp.Block n body) = exact (codes "block") ∷ exact (decimal n) ∷ run body ∷ []
+tftp_parts (tftp.Ack n) = exact (codes "ack") ∷ exact (decimal n) ∷ []
+tftp_parts (tftp.Error n message) = exact (codes "error") ∷ exact (decimal n) ∷ quoted_part message ∷ []
 
--- udp ADDR ADDR, the source first, and the message
-abbrev pub datagram_parts : Addr → Addr → Message → List Part
-datagram_parts src dst m = exact (codes "udp") ∷ exact (addr_text src) ∷ exact (addr_text dst) ∷ message_parts m
+-- ---- the parts of a frame
 
 -- name=MAC, name=IP
 abbrev pub mac_part : Text → Mac → Part
@@ -81,7 +72,8 @@ frame_parts f = exact (codes "rarp") ∷ kind_parts f
 -- the text that is written for a part
 abbrev pub part_text : Part → Text
 part_text (exact text) = text
-part_text (run bytes) = runs_text bytes
+part_text (run bs) = runs_text bs
+part_text (said front F x) = front ++ form_text F x
 
 -- the text that is written for parts: one space between each two
 abbrev pub parts_text : List Part → Text
@@ -90,7 +82,8 @@ parts_text parts = join_with_byte 32 (map part_text parts)
 -- the texts that are read as a part: a byte run may be split in any way
 abbrev pub IsPart : Part → Text → Type 0
 IsPart (exact text) read = read ≡ text
-IsPart (run bytes) read = IsRuns read bytes
+IsPart (run bs) read = IsRuns read bs
+IsPart (said front F x) read = (text : Text) × (read ≡ front ++ text) × IsFormText F text x
 
 -- The texts begin with those of the parts, and go on with the rest.
 abbrev pub BeginWith : List Part → List Text → List Text → Type 0

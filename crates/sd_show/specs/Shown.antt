@@ -1,20 +1,26 @@
 -- Which text a packet has, and of which packets a text is.
-use Rattle.std.specs.Prelude.{◌≡◌, ℕ, ◌≤◌, ◌<◌, ◌^◌, Bool, ◌||◌, ◌&&◌, ◌==◌, nat_le, IsFalse, List, [], length}
+use Rattle.std.specs.Prelude.{◌≡◌, ◌⊎◌, ℕ, ◌≤◌, ◌<◌, ◌^◌, Bool, ◌||◌, ◌&&◌, ◌==◌, nat_le, IsTrue, IsFalse, List, [], ◌∷◌, length, codes}
 use Rattle.sd_outside.specs.Bytes.{IsMac}
 use Rattle.sd_outside.specs.declared.packet.Addr.{Addr}
 use Rattle.sd_outside.specs.declared.packet.Packet.{Packet}
 use Rattle.sd_outside.specs.declared.packet.Packet.TheVariants.{Frame, Udp}
 use Rattle.sd_xdr.specs.Kind.{whole}
-use Rattle.sd_xdr.specs.Grammar.{Reads}
+use Rattle.sd_xdr.specs.Grammar.{Reads, writes}
 use Rattle.sd_rpc_msg.specs.declared.message.Message.{Message}
 use Rattle.sd_rpc_msg.specs.Layout.{message, message_value}
+use Rattle.sd_rpc_msg.specs.Laws.{IsMessage}
+use Rattle.sd_tftp.specs.declared.packet.TftpPacket.{TftpPacket}
+use Rattle.sd_tftp.specs.Grammar as tftp
 use Rattle.sd_rarp.specs.declared.frame.RarpFrame.{RarpFrame}
 use Rattle.sd_rarp.specs.declared.frame.RarpFrame.TheVariants as frames
 use Rattle.sd_rarp.specs.Frame.{Spells, frame_bytes}
 use Rattle.sd_link.specs.Texts.{Text}
-use Rattle.sd_script.specs.Texts.{fields}
 use Rattle.sd_script.specs.Packets.{AddrFits}
-use Rattle.sd_show.specs.Parts.{datagram_parts, frame_parts, parts_text, BeginWith}
+use Rattle.sd_show.specs.declared.calls.Heard.{Heard}
+use Rattle.sd_show.specs.Words.{words}
+use Rattle.sd_show.specs.Parts.{Part, exact, tftp_parts, frame_parts, parts_text, BeginWith}
+use Rattle.sd_show.specs.Messages.{Body, IsBody, IsWrittenBody, with_body, message_parts, datagram_parts}
+use Rattle.sd_show.specs.Calls.{heard}
 
 -- the ports at which a datagram is one of TFTP: the server's (RFC 1350, section 4), and those of its sessions
 abbrev pub is_tftp_port : ℕ → Bool
@@ -23,15 +29,41 @@ is_tftp_port port = port == 69 || (nat_le 4096 port && nat_le port 8191)
 abbrev pub is_tftp : Addr → Addr → Bool
 is_tftp src dst = is_tftp_port src.port || is_tftp_port dst.port
 
--- a datagram that is an RPC message
-pub record IsDatagram (src dst : Addr) (body : List ℕ) (m : Message) : Type 0 where
-  pub other : IsFalse (is_tftp src dst)
-  pub reads : Reads whole message body (message_value m)
+-- what follows `udp ADDR ADDR` in the text of a packet of TFTP
+abbrev pub file_parts : TftpPacket → List Part
+file_parts p = exact (codes "tftp") ∷ tftp_parts p
 
--- The text of a packet: of an RPC message, or of a RARP frame.
-abbrev pub Shows : Packet → Text → Type 0
-Shows (Udp src dst body) text = (m : Message) × IsDatagram src dst body m × (text ≡ parts_text (datagram_parts src dst m))
-Shows (Frame bytes) text = (f : RarpFrame) × Spells bytes f × (text ≡ parts_text (frame_parts f))
+-- ---- the text of a packet
+
+-- a datagram that is a packet of TFTP
+pub record ShowsFile (src dst : Addr) (content : List ℕ) (text : Text) : Type 0 where
+  pub p : TftpPacket
+  pub port : IsTrue (is_tftp src dst)
+  pub spells : tftp.Spells content p
+  pub means : text ≡ parts_text (datagram_parts src dst (file_parts p))
+
+-- a datagram that is an RPC message, behind these calls
+pub record ShowsMessage (seen : List Heard) (src dst : Addr) (content : List ℕ) (text : Text) : Type 0 where
+  pub m : Message
+  pub b : Body
+  pub other : IsFalse (is_tftp src dst)
+  pub reads : Reads whole message content (message_value m)
+  pub body : IsBody seen src dst m b
+  pub means : text ≡ parts_text (datagram_parts src dst (message_parts m b))
+
+-- The text of a packet behind these calls.
+abbrev pub Shows : List Heard → Packet → Text → Type 0
+Shows seen (Udp src dst content) text = ShowsFile src dst content text ⊎ ShowsMessage seen src dst content text
+Shows seen (Frame bytes) text = (f : RarpFrame) × Spells bytes f × (text ≡ parts_text (frame_parts f))
+
+-- The calls with that of this packet, if it holds one.
+abbrev pub Hears : List Heard → Packet → List Heard → Type 0
+Hears seen (Udp src dst content) new =
+    (IsTrue (is_tftp src dst) × (new ≡ seen))
+    ⊎ (IsFalse (is_tftp src dst) × ((m : Message) × Reads whole message content (message_value m) × (new ≡ heard seen src dst m)))
+Hears seen (Frame bytes) new = new ≡ seen
+
+-- ---- the packet of a text
 
 -- the hardware addresses have six bytes, and the others are words
 abbrev pub IsFrame : RarpFrame → Type 0
@@ -39,29 +71,60 @@ IsFrame (frames.Request dst src sender target) = IsMac dst × IsMac src × IsMac
 IsFrame (frames.Reply dst src sender sender_ip target target_ip) =
     IsMac dst × IsMac src × IsMac sender × (sender_ip < 2 ^ 32) × IsMac target × (target_ip < 2 ^ 32)
 
--- a datagram within the limits whose text, but for how byte runs are split, has these parts
-pub record PacksDatagram (parts : List Text) (src dst : Addr) (body : List ℕ) (m : Message) : Type 0 where
-  pub is : IsDatagram src dst body m
-  pub from : AddrFits src
-  pub to : AddrFits dst
-  pub short : length body ≤ 9216
-  pub text : BeginWith (datagram_parts src dst m) parts []
+-- a datagram of TFTP as it is written, whose text, but for how byte runs are split, has these words
+pub record PacksFile (texts : List Text) (src dst : Addr) (content : List ℕ) : Type 0 where
+  pub p : TftpPacket
+  pub port : IsTrue (is_tftp src dst)
+  pub range : tftp.IsInRange p
+  pub fits : tftp.HasSpelling p
+  pub written : content ≡ tftp.packet_bytes p
+  pub text : BeginWith (datagram_parts src dst (file_parts p)) texts []
+
+-- the same for an RPC message
+pub record PacksMessage (texts : List Text) (src dst : Addr) (content : List ℕ) : Type 0 where
+  pub m : Message
+  pub b : Body
+  pub other : IsFalse (is_tftp src dst)
+  pub is : IsMessage m
+  pub body : IsWrittenBody m b
+  pub written : content ≡ writes message (message_value m)
+  pub text : BeginWith (datagram_parts src dst (message_parts m b)) texts []
 
 -- a frame as it is written, with this text
-pub record PacksFrame (parts : List Text) (bytes : List ℕ) (f : RarpFrame) : Type 0 where
+pub record PacksFrame (texts : List Text) (bytes : List ℕ) (f : RarpFrame) : Type 0 where
   pub is : IsFrame f
   pub written : bytes ≡ frame_bytes f
-  pub text : BeginWith (frame_parts f) parts []
+  pub text : BeginWith (frame_parts f) texts []
 
--- The packet whose text this is: a datagram of at most 9,216 bytes, or a frame in the written form.
-abbrev pub PacksParts : List Text → Packet → Type 0
-PacksParts parts (Udp src dst body) = (m : Message) × PacksDatagram parts src dst body m
-PacksParts parts (Frame bytes) = (f : RarpFrame) × PacksFrame parts bytes f
+-- The packet whose text this is, in the written form: a datagram of at most 9,216 bytes, or a frame.
+abbrev pub PacksWords : List Text → Packet → Type 0
+PacksWords texts (Udp src dst content) = AddrFits src × AddrFits dst × (length content ≤ 9216) × (PacksFile texts src dst content ⊎ PacksMessage texts src dst content)
+PacksWords texts (Frame bytes) = (f : RarpFrame) × PacksFrame texts bytes f
 
 abbrev pub Packs : Text → Packet → Type 0
-Packs text packet = PacksParts (fields text) packet
+Packs text packet = PacksWords (words text) packet
 
--- The packet in written form: a frame's undefined fields and tail are zeros; a datagram is as it is.
-abbrev pub IsWritten : Packet → Packet → Type 0
-IsWritten (Udp src dst body) packet = packet ≡ Udp src dst body
-IsWritten (Frame bytes) packet = (f : RarpFrame) × Spells bytes f × (packet ≡ Frame (frame_bytes f))
+-- ---- written form
+
+-- an RPC message with the arguments or results as they are written for what they say
+pub record IsWrittenMessage (seen : List Heard) (src dst : Addr) (content written : List ℕ) : Type 0 where
+  pub m : Message
+  pub b : Body
+  pub other : IsFalse (is_tftp src dst)
+  pub reads : Reads whole message content (message_value m)
+  pub body : IsBody seen src dst m b
+  pub means : written ≡ writes message (message_value (with_body m b))
+
+-- a packet of TFTP as it is written
+pub record IsWrittenFile (src dst : Addr) (content written : List ℕ) : Type 0 where
+  pub p : TftpPacket
+  pub port : IsTrue (is_tftp src dst)
+  pub spells : tftp.Spells content p
+  pub means : written ≡ tftp.packet_bytes p
+
+-- The packet in written form: the undefined fields and the tail of a frame are zeros, nothing follows the mode in a packet of TFTP,
+-- and the bytes of an address are written as chars with a sign.
+abbrev pub IsWritten : List Heard → Packet → Packet → Type 0
+IsWritten seen (Udp src dst content) packet = (written : List ℕ) × (packet ≡ Udp src dst written)
+    × (IsWrittenFile src dst content written ⊎ IsWrittenMessage seen src dst content written)
+IsWritten seen (Frame bytes) packet = (f : RarpFrame) × Spells bytes f × (packet ≡ Frame (frame_bytes f))

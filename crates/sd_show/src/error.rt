@@ -2,16 +2,17 @@
 
 ghost use Rattle.std.specs.Prelude.{◌≡◌};
 ghost use Rattle.sd_show.specs.declared.error.ShowError.TheVariants as errors;
-ghost use Rattle.sd_show.specs.Refused.{word_text, message_error, frame_error};
+ghost use Rattle.sd_show.specs.Refused.{word_text, message_error, file_error, frame_error};
 
 use sd_outside::NoMemory;
 use sd_rarp::RarpError;
+use sd_tftp::TftpError;
 use sd_xdr::{MsgError, XdrError};
 
 /// What is wrong, in a word.
 #[derive(Clone, Copy, Debug, PartialEq, Eq)]
 pub enum Word {
-    /// The line is no text.
+    /// The line is no packet's, or no text of one.
     Line,
     /// An item of the message isn't whole, or a frame has fewer than 42 bytes.
     Short,
@@ -21,7 +22,7 @@ pub enum Word {
     Rarp,
     /// A field isn't as RARP has it on Ethernet.
     Shape,
-    /// A length or a count is above its limit.
+    /// A length or a count is above its limit, or a block of TFTP has more than 512 bytes.
     TooLong,
     /// A byte that fills up to a multiple of four isn't zero.
     Filling,
@@ -29,12 +30,16 @@ pub enum Word {
     Bool,
     /// No such word may stand there.
     Kind,
-    /// The message ends, and more bytes follow.
+    /// The message or the packet ends, and more bytes follow.
     Tail,
     /// The version of the RPC protocol isn't 2.
     Version,
     /// The body of an authentication is above 400 bytes.
     Auth,
+    /// No packet of TFTP has this opcode.
+    Opcode,
+    /// A text in a packet of TFTP has no zero behind it.
+    NoEnd,
 }
 
 impl Word {
@@ -55,6 +60,8 @@ impl Word {
             Word::Tail => "tail",
             Word::Version => "version",
             Word::Auth => "auth",
+            Word::Opcode => "opcode",
+            Word::NoEnd => "noend",
         }
     }
 }
@@ -105,6 +112,25 @@ impl From<RarpError> for ShowError {
             RarpError::Long { len } => (Word::Long, len),
             RarpError::NotRarp { .. } => (Word::Rarp, 12),
             RarpError::Shape { at } => (Word::Shape, at),
+        };
+        ShowError::Bad {
+            word,
+            at: at as u64,
+        }
+    }
+}
+
+impl From<TftpError> for ShowError {
+    ghost from_gives = { λ r e. e ≡ file_error r };
+
+    fn from(e: TftpError) -> ShowError {
+        let (word, at) = match e {
+            TftpError::Short { at } => (Word::Short, at),
+            TftpError::Opcode { .. } => (Word::Opcode, 0),
+            TftpError::NoEnd { at } => (Word::NoEnd, at),
+            TftpError::DataLong { .. } => (Word::TooLong, 4),
+            TftpError::Tail { at } => (Word::Tail, at),
+            TftpError::NoMemory => return ShowError::NoMemory,
         };
         ShowError::Bad {
             word,

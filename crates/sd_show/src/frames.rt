@@ -7,10 +7,11 @@ ghost use Rattle.sd_show.specs.Parts.{exact, mac_part, ip_part, kind_parts, fram
 ghost use Rattle.sd_show.specs.Frames.{Follows, NamedMac, NamedIp, MacsStand, HostStands, RequestStands, ReplyStands, FrameStands};
 ghost use Rattle.sd_show.specs.Packing.{spaced, TakesParts};
 
+use crate::pieces::Words;
 use crate::showing::push_word;
 use sd_outside::{ByteList, Mac, NoMemory};
 use sd_rarp::RarpFrame;
-use sd_script::{LineError, Parts, ip_list, read_ip, read_mac, same_text};
+use sd_script::{LineError, ip_list, read_ip, read_mac, same_text};
 use std::alloc::Global;
 
 /// NAME=MAC
@@ -116,7 +117,7 @@ fn after_name<'a>(text: &'a [u8], name: &[u8]) -> Option<&'a [u8]>
 }
 
 /// NAME=MAC
-fn take_mac(fields: &mut Parts<'_>, name: &[u8]) -> Result<Mac, LineError>
+fn take_mac(fields: &mut Words<'_>, name: &[u8]) -> Result<Mac, LineError>
     ensures { Takes (NamedMac name.now) fields.old fields.new result }
 {
     let Some(text) = fields.next() else {
@@ -132,7 +133,7 @@ fn take_mac(fields: &mut Parts<'_>, name: &[u8]) -> Result<Mac, LineError>
 }
 
 /// NAME=IP
-fn take_ip(fields: &mut Parts<'_>, name: &[u8]) -> Result<u32, LineError>
+fn take_ip(fields: &mut Words<'_>, name: &[u8]) -> Result<u32, LineError>
     ensures { Takes (NamedIp name.now) fields.old fields.new result }
 {
     let Some(text) = fields.next() else {
@@ -145,7 +146,7 @@ fn take_ip(fields: &mut Parts<'_>, name: &[u8]) -> Result<u32, LineError>
 }
 
 /// Two hardware addresses.
-fn take_macs(fields: &mut Parts<'_>, first: &[u8], second: &[u8]) -> Result<(Mac, Mac), LineError>
+fn take_macs(fields: &mut Words<'_>, first: &[u8], second: &[u8]) -> Result<(Mac, Mac), LineError>
     ensures { TakesParts (MacsStand first.now second.now) fields.old fields.new result }
 {
     let one = take_mac(fields, first)?;
@@ -154,7 +155,7 @@ fn take_macs(fields: &mut Parts<'_>, first: &[u8], second: &[u8]) -> Result<(Mac
 }
 
 /// A hardware address and a protocol address.
-fn take_host(fields: &mut Parts<'_>, first: &[u8], second: &[u8]) -> Result<(Mac, u32), LineError>
+fn take_host(fields: &mut Words<'_>, first: &[u8], second: &[u8]) -> Result<(Mac, u32), LineError>
     ensures { TakesParts (HostStands first.now second.now) fields.old fields.new result }
 {
     let mac = take_mac(fields, first)?;
@@ -163,7 +164,7 @@ fn take_host(fields: &mut Parts<'_>, first: &[u8], second: &[u8]) -> Result<(Mac
 }
 
 /// What follows `rarp request`.
-fn take_request(fields: &mut Parts<'_>) -> Result<RarpFrame, LineError>
+fn take_request(fields: &mut Words<'_>) -> Result<RarpFrame, LineError>
     ensures { TakesParts RequestStands fields.old fields.new result }
 {
     let (dst, src) = take_macs(fields, b"dst=", b"src=")?;
@@ -177,7 +178,7 @@ fn take_request(fields: &mut Parts<'_>) -> Result<RarpFrame, LineError>
 }
 
 /// What follows `rarp reply`.
-fn take_reply(fields: &mut Parts<'_>) -> Result<RarpFrame, LineError>
+fn take_reply(fields: &mut Words<'_>) -> Result<RarpFrame, LineError>
     ensures { TakesParts ReplyStands fields.old fields.new result }
 {
     let (dst, src) = take_macs(fields, b"dst=", b"src=")?;
@@ -194,7 +195,7 @@ fn take_reply(fields: &mut Parts<'_>) -> Result<RarpFrame, LineError>
 }
 
 /// What follows `rarp`.
-pub fn take_frame(fields: &mut Parts<'_>) -> Result<RarpFrame, LineError>
+pub fn take_frame(fields: &mut Words<'_>) -> Result<RarpFrame, LineError>
     ensures { TakesParts FrameStands fields.old fields.new result }
 {
     let Some(word) = fields.next() else {

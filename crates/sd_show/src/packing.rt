@@ -3,29 +3,20 @@
 ghost use Rattle.std.specs.Prelude.{◌≡◌, codes};
 ghost use Rattle.sd_script.specs.Reading.{Reads};
 ghost use Rattle.sd_script.specs.Judging.{Takes};
-ghost use Rattle.sd_show.specs.Packing.{TakesParts, TakesWord, BodyStands, AuthStands, IsProcedure, CallStands, AuthsStand, SuccessStands, RangeStands, StateStands, AcceptedStands, OutcomeStands, ReplyStands, MessageStands};
+ghost use Rattle.sd_show.specs.Packing.{TakesParts, TakesWord, BodyStands, AuthStands, IsProcedure, AskedStands, CallStands, AuthsStand, RawStands, KnownStands, RangeStands, StateStands, AcceptedStands, OutcomeStands, ReplyStands, MessageStands};
 
+use crate::pieces::{Words, take_next, take_number, take_runs};
+use crate::procedures::{Known, Procedure, known_by_name, known_by_numbers};
+use crate::programs::{asked, results as result_fields};
+use crate::taking::{GREATEST, LONGEST, take_fields, take_results};
 use sd_outside::ByteList;
 use sd_rpc_msg::{Call, Message, OpaqueAuth, Outcome, Reply};
-use sd_script::{LineError, Parts, only_number, same_text, take_number, take_runs};
+use sd_script::{LineError, Parts, only_number, same_text};
+use sd_xdr::XdrWriter;
 use std::alloc::Global;
 
-/// The most that a word can say.
-const GREATEST: u64 = 4_294_967_295;
-
-/// The most bytes of a datagram.
-pub const LONGEST: usize = 9216;
-
-/// What a call asks for.
-#[derive(Clone, Copy, Debug)]
-pub struct Procedure {
-    pub prog: u32,
-    pub vers: u32,
-    pub proc_no: u32,
-}
-
 /// A word that stands as it is.
-fn take_word(fields: &mut Parts<'_>, word: &[u8]) -> Result<(), LineError>
+fn take_word(fields: &mut Words<'_>, word: &[u8]) -> Result<(), LineError>
     ensures { TakesWord word.now fields.old fields.new result }
 {
     let Some(text) = fields.next() else {
@@ -39,7 +30,7 @@ fn take_word(fields: &mut Parts<'_>, word: &[u8]) -> Result<(), LineError>
 }
 
 /// FLAVOR BYTES
-fn take_body(alloc: Global, fields: &mut Parts<'_>) -> Result<OpaqueAuth, LineError>
+fn take_body(alloc: Global, fields: &mut Words<'_>) -> Result<OpaqueAuth, LineError>
     ensures { TakesParts BodyStands fields.old fields.new result }
 {
     let flavor = take_number(fields, 0, GREATEST)? as u32;
@@ -48,7 +39,7 @@ fn take_body(alloc: Global, fields: &mut Parts<'_>) -> Result<OpaqueAuth, LineEr
 }
 
 /// NAME FLAVOR BYTES
-fn take_auth(alloc: Global, fields: &mut Parts<'_>, name: &[u8]) -> Result<OpaqueAuth, LineError>
+fn take_auth(alloc: Global, fields: &mut Words<'_>, name: &[u8]) -> Result<OpaqueAuth, LineError>
     ensures { TakesParts (AuthStands name.now) fields.old fields.new result }
 {
     take_word(fields, name)?;
@@ -60,8 +51,8 @@ fn read_procedure(text: &[u8]) -> Result<Procedure, LineError>
     ensures { Reads (IsProcedure text.now) result }
 {
     let mut parts = Parts::new(text, b'/');
-    let prog = take_number(&mut parts, 0, GREATEST)? as u32;
-    let vers = take_number(&mut parts, 0, GREATEST)? as u32;
+    let prog = sd_script::take_number(&mut parts, 0, GREATEST)? as u32;
+    let vers = sd_script::take_number(&mut parts, 0, GREATEST)? as u32;
     let proc_no = only_number(parts, 0, GREATEST)? as u32;
     Ok(Procedure {
         prog,
@@ -70,18 +61,29 @@ fn read_procedure(text: &[u8]) -> Result<Procedure, LineError>
     })
 }
 
-/// PROG/VERS/PROC
-fn take_procedure(fields: &mut Parts<'_>) -> Result<Procedure, LineError>
-    ensures { Takes IsProcedure fields.old fields.new result }
+/// What a call asks for, and its arguments: PROG.PROC FIELDS, or PROG/VERS/PROC BYTES for another procedure.
+fn take_asked(alloc: Global, fields: &mut Words<'_>) -> Result<(Procedure, ByteList), LineError>
+    ensures { TakesParts AskedStands fields.old fields.new result }
 {
-    let Some(text) = fields.next() else {
-        return Err(LineError::Outside);
-    };
-    read_procedure(text)
+    let text = take_next(fields)?;
+    match known_by_name(text) {
+        Some(known) => {
+            let mut writer = XdrWriter::new(alloc);
+            take_fields(alloc, &mut writer, fields, asked(known))?;
+            Ok((known.numbers(), writer.finish()))
+        }
+        None => {
+            let procedure = read_procedure(text)?;
+            if known_by_numbers(procedure).is_some() {
+                return Err(LineError::Outside);
+            }
+            Ok((procedure, take_runs(alloc, fields, LONGEST)?))
+        }
+    }
 }
 
 /// cred FLAVOR BYTES verf FLAVOR BYTES
-fn take_auths(alloc: Global, fields: &mut Parts<'_>) -> Result<(OpaqueAuth, OpaqueAuth), LineError>
+fn take_auths(alloc: Global, fields: &mut Words<'_>) -> Result<(OpaqueAuth, OpaqueAuth), LineError>
     ensures { TakesParts AuthsStand fields.old fields.new result }
 {
     let cred = take_auth(alloc, fields, b"cred")?;
@@ -89,13 +91,12 @@ fn take_auths(alloc: Global, fields: &mut Parts<'_>) -> Result<(OpaqueAuth, Opaq
     Ok((cred, verf))
 }
 
-/// XID PROG/VERS/PROC BYTES cred FLAVOR BYTES verf FLAVOR BYTES
-fn take_call(alloc: Global, fields: &mut Parts<'_>) -> Result<Call, LineError>
+/// XID, what is asked, cred FLAVOR BYTES verf FLAVOR BYTES
+fn take_call(alloc: Global, fields: &mut Words<'_>) -> Result<Call, LineError>
     ensures { TakesParts CallStands fields.old fields.new result }
 {
     let xid = take_number(fields, 0, GREATEST)? as u32;
-    let procedure = take_procedure(fields)?;
-    let args = take_runs(alloc, fields, LONGEST)?;
+    let (procedure, args) = take_asked(alloc, fields)?;
     let (cred, verf) = take_auths(alloc, fields)?;
     Ok(Call {
         xid,
@@ -108,9 +109,24 @@ fn take_call(alloc: Global, fields: &mut Parts<'_>) -> Result<Call, LineError>
     })
 }
 
+/// verf FLAVOR BYTES success FIELDS
+fn take_known(
+    alloc: Global,
+    fields: &mut Words<'_>,
+    known: Known,
+) -> Result<(OpaqueAuth, ByteList), LineError>
+    ensures { TakesParts (KnownStands known) fields.old fields.new result }
+{
+    let verf = take_auth(alloc, fields, b"verf")?;
+    take_word(fields, b"success")?;
+    let mut writer = XdrWriter::new(alloc);
+    take_results(alloc, &mut writer, fields, result_fields(known))?;
+    Ok((verf, writer.finish()))
+}
+
 /// verf FLAVOR BYTES success BYTES
-fn take_success(alloc: Global, fields: &mut Parts<'_>) -> Result<(OpaqueAuth, ByteList), LineError>
-    ensures { TakesParts SuccessStands fields.old fields.new result }
+fn take_raw(alloc: Global, fields: &mut Words<'_>) -> Result<(OpaqueAuth, ByteList), LineError>
+    ensures { TakesParts RawStands fields.old fields.new result }
 {
     let verf = take_auth(alloc, fields, b"verf")?;
     take_word(fields, b"success")?;
@@ -119,7 +135,7 @@ fn take_success(alloc: Global, fields: &mut Parts<'_>) -> Result<(OpaqueAuth, By
 }
 
 /// LOW HIGH
-fn take_range(fields: &mut Parts<'_>) -> Result<(u32, u32), LineError>
+fn take_range(fields: &mut Words<'_>) -> Result<(u32, u32), LineError>
     ensures { TakesParts RangeStands fields.old fields.new result }
 {
     let low = take_number(fields, 0, GREATEST)? as u32;
@@ -128,7 +144,7 @@ fn take_range(fields: &mut Parts<'_>) -> Result<(u32, u32), LineError>
 }
 
 /// The state of an accepted call that has no results.
-fn take_state(fields: &mut Parts<'_>, verf: OpaqueAuth) -> Result<Outcome, LineError>
+fn take_state(fields: &mut Words<'_>, verf: OpaqueAuth) -> Result<Outcome, LineError>
     ensures { TakesParts (StateStands verf) fields.old fields.new result }
 {
     let Some(state) = fields.next() else {
@@ -151,7 +167,7 @@ fn take_state(fields: &mut Parts<'_>, verf: OpaqueAuth) -> Result<Outcome, LineE
 }
 
 /// FLAVOR BYTES, and the state
-fn take_accepted(alloc: Global, fields: &mut Parts<'_>) -> Result<Outcome, LineError>
+fn take_accepted(alloc: Global, fields: &mut Words<'_>) -> Result<Outcome, LineError>
     ensures { TakesParts AcceptedStands fields.old fields.new result }
 {
     let verf = take_body(alloc, fields)?;
@@ -159,14 +175,14 @@ fn take_accepted(alloc: Global, fields: &mut Parts<'_>) -> Result<Outcome, LineE
 }
 
 /// What follows the number of a reply.
-fn take_outcome(alloc: Global, fields: &mut Parts<'_>) -> Result<Outcome, LineError>
+fn take_outcome(alloc: Global, fields: &mut Words<'_>) -> Result<Outcome, LineError>
     ensures { TakesParts OutcomeStands fields.old fields.new result }
 {
     let Some(word) = fields.next() else {
         return Err(LineError::Outside);
     };
     if same_text(word, b"raw") {
-        let (verf, results) = take_success(alloc, fields)?;
+        let (verf, results) = take_raw(alloc, fields)?;
         return Ok(Outcome::Success { verf, results });
     }
     if same_text(word, b"verf") {
@@ -176,15 +192,19 @@ fn take_outcome(alloc: Global, fields: &mut Parts<'_>) -> Result<Outcome, LineEr
         let (low, high) = take_range(fields)?;
         return Ok(Outcome::RpcMismatch { low, high });
     }
-    if !same_text(word, b"autherror") {
-        return Err(LineError::Outside);
+    if same_text(word, b"autherror") {
+        let stat = take_number(fields, 1, 5)? as u32;
+        return Ok(Outcome::AuthError { stat });
     }
-    let stat = take_number(fields, 1, 5)? as u32;
-    Ok(Outcome::AuthError { stat })
+    let Some(known) = known_by_name(word) else {
+        return Err(LineError::Outside);
+    };
+    let (verf, results) = take_known(alloc, fields, known)?;
+    Ok(Outcome::Success { verf, results })
 }
 
 /// XID, and the outcome
-fn take_reply(alloc: Global, fields: &mut Parts<'_>) -> Result<Reply, LineError>
+fn take_reply(alloc: Global, fields: &mut Words<'_>) -> Result<Reply, LineError>
     ensures { TakesParts ReplyStands fields.old fields.new result }
 {
     let xid = take_number(fields, 0, GREATEST)? as u32;
@@ -192,13 +212,14 @@ fn take_reply(alloc: Global, fields: &mut Parts<'_>) -> Result<Reply, LineError>
     Ok(Reply { xid, outcome })
 }
 
-/// The text of a message.
-pub fn take_message(alloc: Global, fields: &mut Parts<'_>) -> Result<Message, LineError>
-    ensures { TakesParts MessageStands fields.old fields.new result }
+/// What follows `call` or `reply`, which is the word.
+pub fn take_message(
+    alloc: Global,
+    fields: &mut Words<'_>,
+    word: &[u8],
+) -> Result<Message, LineError>
+    ensures { TakesParts (MessageStands word.now) fields.old fields.new result }
 {
-    let Some(word) = fields.next() else {
-        return Err(LineError::Outside);
-    };
     if same_text(word, b"call") {
         return Ok(Message::Asked(take_call(alloc, fields)?));
     }

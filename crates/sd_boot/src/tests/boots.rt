@@ -33,42 +33,54 @@ struct Boot {
     output: &'static [u8],
 }
 
-const BOOTS: [Boot; 11] = [
+const BOOTS: [Boot; 13] = [
     // a calm boot
     Boot {
         head: LIFE,
-        lines: b"tftp C0A80102 42*600\nboot\n",
-        output: b"Psent 2 2 R;served 3 2;sent 3 3 S4096T00030001.42*512;got 4 3;sent 4 4 C4096 00040001;served 5 4;sent 5 5 S4096T00030002.42*88;got 6 5;sent 6 6 C4096 00040002;boot unbuilt whoami program 42*600;",
+        lines: b"tftp C0A80102 42*600\nparams sparky root=boss:/export/root/sparky\nboot\n",
+        output: b"Psent 2 2 R;served 3 2;sent 3 3 S4096T00030001.42*512;got 4 3;sent 4 4 C4096 00040001;served 5 4;sent 5 5 S4096T00030002.42*88;got 6 5;sent 6 6 C4096 00040002;sent 6 7 U01D;served 7 6;served 7 7;sent 7 8 W01E;got 8 8;sent 8 9 V02F;served 9 9;sent 9 10 W02G;got 10 10;sent 10 11 V03H;served 11 11;sent 11 12 W03I;got 12 12;boot unbuilt mnt program 42*600;",
     },
     // an empty file is one empty block
     Boot {
         head: LIFE,
-        lines: b"tftp C0A80102 -\nboot\n",
-        output: b"Psent 2 2 R;served 3 2;sent 3 3 S4096T00030001;got 4 3;sent 4 4 C4096 00040001;boot unbuilt whoami program -;",
+        lines: b"tftp C0A80102 -\nparams sparky root=boss:/export/root/sparky\nboot\n",
+        output: b"Psent 2 2 R;served 3 2;sent 3 3 S4096T00030001;got 4 3;sent 4 4 C4096 00040001;sent 4 5 U01D;served 5 4;served 5 5;sent 5 6 W01E;got 6 6;sent 6 7 V02F;served 7 7;sent 7 8 W02G;got 8 8;sent 8 9 V03H;served 9 9;sent 9 10 W03I;got 10 10;boot unbuilt mnt program -;",
     },
     // a whole block is followed by an empty one
     Boot {
         head: LIFE,
-        lines: b"tftp C0A80102 42*512\nboot\n",
-        output: b"Psent 2 2 R;served 3 2;sent 3 3 S4096T00030001.42*512;got 4 3;sent 4 4 C4096 00040001;served 5 4;sent 5 5 S4096T00030002;got 6 5;sent 6 6 C4096 00040002;boot unbuilt whoami program 42*512;",
+        lines: b"tftp C0A80102 42*512\nparams sparky root=boss:/export/root/sparky\nboot\n",
+        output: b"Psent 2 2 R;served 3 2;sent 3 3 S4096T00030001.42*512;got 4 3;sent 4 4 C4096 00040001;served 5 4;sent 5 5 S4096T00030002;got 6 5;sent 6 6 C4096 00040002;sent 6 7 U01D;served 7 6;served 7 7;sent 7 8 W01E;got 8 8;sent 8 9 V02F;served 9 9;sent 9 10 W02G;got 10 10;sent 10 11 V03H;served 11 11;sent 11 12 W03I;got 12 12;boot unbuilt mnt program 42*512;",
     },
     // the first block comes again when the third is awaited: nothing is sent for it
     Boot {
         head: LIFE,
-        lines: b"tftp C0A80102 42*1024\nfate 3 1 4\nboot\n",
-        output: b"Psent 2 2 R;served 3 2;sent 3 3 S4096T00030001.42*512;got 4 3;sent 4 4 C4096 00040001;served 5 4;sent 5 5 S4096T00030002.42*512;got 6 5;sent 6 6 C4096 00040002;served 7 6;sent 7 7 S4096T00030003;got 7 3;got 8 7;sent 8 8 C4096 00040003;boot unbuilt whoami program 42*1024;",
+        lines: b"tftp C0A80102 42*1024\nparams sparky root=boss:/export/root/sparky\nfate 3 1 4\nboot\n",
+        output: b"Psent 2 2 R;served 3 2;sent 3 3 S4096T00030001.42*512;got 4 3;sent 4 4 C4096 00040001;served 5 4;sent 5 5 S4096T00030002.42*512;got 6 5;sent 6 6 C4096 00040002;served 7 6;sent 7 7 S4096T00030003;got 7 3;got 8 7;sent 8 8 C4096 00040003;sent 8 9 U01D;served 9 8;served 9 9;sent 9 10 W01E;got 10 10;sent 10 11 V02F;served 11 11;sent 11 12 W02G;got 12 12;sent 12 13 V03H;served 13 13;sent 13 14 W03I;got 14 14;boot unbuilt mnt program 42*1024;",
     },
     // the first ACK is lost: the block that comes again is acknowledged at once, and again by the next try
     Boot {
         head: LIFE,
-        lines: b"tftp C0A80102 42*600\nfate 4 none\nboot\n",
-        output: b"Psent 2 2 R;served 3 2;sent 3 3 S4096T00030001.42*512;got 4 3;sent 4 4 C4096 00040001;sent 8 5 S4096T00030001.42*512;got 9 5;sent 9 6 C4096 00040001;sent 9 7 C4096 00040001;served 10 6;sent 10 8 S4096T00030002.42*88;served 10 7;got 11 8;sent 11 9 C4096 00040002;boot unbuilt whoami program 42*600;",
+        lines: b"tftp C0A80102 42*600\nparams sparky root=boss:/export/root/sparky\nfate 4 none\nboot\n",
+        output: b"Psent 2 2 R;served 3 2;sent 3 3 S4096T00030001.42*512;got 4 3;sent 4 4 C4096 00040001;sent 8 5 S4096T00030001.42*512;got 9 5;sent 9 6 C4096 00040001;sent 9 7 C4096 00040001;served 10 6;sent 10 8 S4096T00030002.42*88;served 10 7;got 11 8;sent 11 9 C4096 00040002;sent 11 10 U01D;served 12 9;served 12 10;sent 12 11 W01E;got 13 11;sent 13 12 V02F;served 14 12;sent 14 13 W02G;got 15 13;sent 15 14 V03H;served 16 14;sent 16 15 W03I;got 17 15;boot unbuilt mnt program 42*600;",
     },
     // the request comes twice: the second session's block is a stranger's
     Boot {
         head: LIFE,
-        lines: b"tftp C0A80102 42*600\nfate 2 1 2\nboot\n",
-        output: b"Psent 2 2 R;served 3 2;sent 3 3 S4096T00030001.42*512;served 4 2;sent 4 4 S4097T00030001.42*512;got 4 3;sent 4 5 C4096 00040001;served 5 5;sent 5 6 S4096T00030002.42*88;got 5 4;sent 5 7 C4097 0005000500;served 6 7;got 6 6;sent 6 8 C4096 00040002;boot unbuilt whoami program 42*600;",
+        lines: b"tftp C0A80102 42*600\nparams sparky root=boss:/export/root/sparky\nfate 2 1 2\nboot\n",
+        output: b"Psent 2 2 R;served 3 2;sent 3 3 S4096T00030001.42*512;served 4 2;sent 4 4 S4097T00030001.42*512;got 4 3;sent 4 5 C4096 00040001;served 5 5;sent 5 6 S4096T00030002.42*88;got 5 4;sent 5 7 C4097 0005000500;served 6 7;got 6 6;sent 6 8 C4096 00040002;sent 6 9 U01D;served 7 8;served 7 9;sent 7 10 W01E;got 8 10;sent 8 11 V02F;served 9 11;sent 9 12 W02G;got 10 12;sent 10 13 V03H;served 11 13;sent 11 14 W03I;got 12 14;boot unbuilt mnt program 42*600;",
+    },
+    // nobody knows the client's name
+    Boot {
+        head: LIFE,
+        lines: b"tftp C0A80102 42*600\nboot\n",
+        output: b"Psent 2 2 R;served 3 2;sent 3 3 S4096T00030001.42*512;got 4 3;sent 4 4 C4096 00040001;served 5 4;sent 5 5 S4096T00030002.42*88;got 6 5;sent 6 6 C4096 00040002;sent 6 7 U01D;served 7 6;served 7 7;sent 11 8 U01D;served 12 8;sent 16 9 U01D;served 17 9;sent 21 10 U01D;served 22 10;boot timeout whoami;",
+    },
+    // the client has no root
+    Boot {
+        head: LIFE,
+        lines: b"tftp C0A80102 42*600\nparams sparky swap=boss:/export/swap/sparky\nboot\n",
+        output: b"Psent 2 2 R;served 3 2;sent 3 3 S4096T00030001.42*512;got 4 3;sent 4 4 C4096 00040001;served 5 4;sent 5 5 S4096T00030002.42*88;got 6 5;sent 6 6 C4096 00040002;sent 6 7 U01D;served 7 6;served 7 7;sent 7 8 W01E;got 8 8;sent 8 9 V02F;served 9 9;sent 13 10 V02F;served 14 10;sent 18 11 V02F;served 19 11;sent 23 12 V02F;served 24 12;boot timeout getfile;",
     },
     // no file has the name
     Boot {
@@ -97,16 +109,16 @@ const BOOTS: [Boot; 11] = [
     // the name ends in the architecture
     Boot {
         head: LIFE,
-        lines: b"arch SUN4C\ntftp C0A80102 42*600\ntftp C0A80102.SUN4C 50*3\nboot\n",
-        output: b"Psent 2 2 C69 000143304138303130322e53554e3443006f6374657400;served 3 2;sent 3 3 S4096T00030001505050;got 4 3;sent 4 4 C4096 00040001;boot unbuilt whoami program 505050;",
+        lines: b"arch SUN4C\ntftp C0A80102 42*600\ntftp C0A80102.SUN4C 50*3\nparams sparky root=boss:/export/root/sparky\nboot\n",
+        output: b"Psent 2 2 C69 000143304138303130322e53554e3443006f6374657400;served 3 2;sent 3 3 S4096T00030001505050;got 4 3;sent 4 4 C4096 00040001;sent 4 5 U01D;served 5 4;served 5 5;sent 5 6 W01E;got 6 6;sent 6 7 V02F;served 7 7;sent 7 8 W02G;got 8 8;sent 8 9 V03H;served 9 9;sent 9 10 W03I;got 10 10;boot unbuilt mnt program 505050;",
     },
 ];
 
 /// The second boot of a script asks again, from the next port, and gets the next session.
 const TWO_BOOTS: Boot = Boot {
     head: LIFE,
-    lines: b"tftp C0A80102 42*5\nboot\nboot\n",
-    output: b"Psent 2 2 R;served 3 2;sent 3 3 S4096T00030001.42*5;got 4 3;sent 4 4 C4096 00040001;boot unbuilt whoami program 42*5;sent 4 5 Q;served 5 4;served 5 5;sent 5 6 A;got 6 6;sent 6 7 udp 192.168.1.2:2049 192.168.1.1:69 00014330413830313032006f6374657400;served 7 7;sent 7 8 udp 192.168.1.1:4097 192.168.1.2:2049 00030001.42*5;got 8 8;sent 8 9 udp 192.168.1.2:2049 192.168.1.1:4097 00040001;boot unbuilt whoami program 42*5;",
+    lines: b"tftp C0A80102 42*5\nparams sparky root=boss:/export/root/sparky\nboot\nboot\n",
+    output: b"Psent 2 2 R;served 3 2;sent 3 3 S4096T00030001.42*5;got 4 3;sent 4 4 C4096 00040001;sent 4 5 U01D;served 5 4;served 5 5;sent 5 6 W01E;got 6 6;sent 6 7 V02F;served 7 7;sent 7 8 W02G;got 8 8;sent 8 9 V03H;served 9 9;sent 9 10 W03I;got 10 10;boot unbuilt mnt program 42*5;sent 10 11 Q;served 11 11;sent 11 12 A;got 12 12;sent 12 13 udp 192.168.1.2:2049 192.168.1.1:69 00014330413830313032006f6374657400;served 13 13;sent 13 14 udp 192.168.1.1:4097 192.168.1.2:2049 00030001.42*5;got 14 14;sent 14 15 udp 192.168.1.2:2049 192.168.1.1:4097 00040001;sent 14 16 U04D;served 15 15;served 15 16;sent 15 17 W04E;got 16 17;sent 16 18 V05F;served 17 18;sent 17 19 W05G;got 18 19;sent 18 20 V06H;served 19 20;sent 19 21 W06I;got 20 21;boot unbuilt mnt program 42*5;",
 };
 
 /// These texts as one.
@@ -119,7 +131,8 @@ fn joined(alloc: Global, parts: &[&[u8]]) -> Result<ByteList, NoMemory> {
 }
 
 /// What a byte of an abbreviated output stands for: `P` is how the client learns its address, `C` begins a datagram to a port of the
-/// server, `S` one from a port of the server, and `T` ends its heading.
+/// server, `S` one from a port of the server, and `T` ends its heading. `U` begins a call of everyone, `V` one of the server and `W` a
+/// reply; `D` to `I` end the calls of a boot and their replies, behind the last byte of their number.
 fn expanded(byte: &u8) -> &[&[u8]] {
     match *byte {
         b';' => &[b"\n"],
@@ -136,6 +149,23 @@ fn expanded(byte: &u8) -> &[&[u8]] {
         b'C' => &[b"udp 192.168.1.2:2048 192.168.1.1:"],
         b'S' => &[b"udp 192.168.1.1:"],
         b'T' => &[b" 192.168.1.2:2048 "],
+        b'D' => &[
+            b".00*7.02000186a00000000200000005.00*17.0186ba00000001000000010000001400000001ffffffc0ffffffa80000000100000002",
+        ],
+        b'E' => &[
+            b"00000001.00*18.03f80000002c00000006737061726b79.00*5.076578616d706c65.00*4.01ffffffc0ffffffa80000000100000001",
+        ],
+        b'F' => &[
+            b".00*7.02000186a00000000200000005.00*17.0186ba00000001000000020000001400000006737061726b79.00*5.04726f6f74",
+        ],
+        b'G' => &[
+            b"00000001.00*18.03f80000003400000004626f737300000001ffffffc0ffffffa80000000100000001000000132f6578706f72742f726f6f742f737061726b7900",
+        ],
+        b'H' => &[b".00*7.02000186a00000000200000003.00*17.0186a50000000100000011.00*4"],
+        b'I' => &[b"00000001.00*18.03f9"],
+        b'U' => &[b"udp 192.168.1.2:1021 255.255.255.255:111 000000"],
+        b'V' => &[b"udp 192.168.1.2:1021 192.168.1.1:111 000000"],
+        b'W' => &[b"udp 192.168.1.1:111 192.168.1.2:1021 000000"],
         _ => &[],
     }
 }
@@ -187,10 +217,13 @@ fn ends(rt: &impl Abort, alloc: Global, lines: &[&[u8]], answer: &[u8]) -> Resul
     Ok(())
 }
 
-/// The packets of a calm boot from three blocks: the question and its answer, the request, and three blocks with their ACKs.
-const PACKETS: [&[u8]; 9] = [b"0", b"1", b"2", b"3", b"4", b"5", b"6", b"7", b"8"];
+/// The packets of a calm boot from three blocks: the question and its answer, the request, three blocks with their ACKs, and three
+/// calls with their replies.
+const PACKETS: [&[u8]; 15] = [
+    b"0", b"1", b"2", b"3", b"4", b"5", b"6", b"7", b"8", b"9", b"10", b"11", b"12", b"13", b"14",
+];
 
-const THREE_BLOCKS: &[u8] = b"tftp C0A80102 42*1100\n";
+const THREE_BLOCKS: &[u8] = b"tftp C0A80102 42*1100\nparams sparky root=boss:/export/root/sparky\n";
 
 /// A boot from three blocks brings all of them, whatever becomes of any one packet.
 fn boots_whatever_comes(rt: &impl Abort, alloc: Global, delays: &[u8]) -> Result<(), Fail> {
@@ -205,12 +238,7 @@ fn boots_whatever_comes(rt: &impl Abort, alloc: Global, delays: &[u8]) -> Result
             delays,
             b"\nboot\n",
         ];
-        ends(
-            rt,
-            alloc,
-            &lines,
-            b"\nboot unbuilt whoami program 42*1100\n",
-        )?;
+        ends(rt, alloc, &lines, b"\nboot unbuilt mnt program 42*1100\n")?;
     }
     Ok(())
 }
@@ -237,7 +265,7 @@ fn boots_though_a_packet_is_late(rt: HostRuntime) -> Result<(), Fail> {
 
 /// Two requests come eight times each at tick 14.
 const SIXTEEN_SESSIONS: &[u8] =
-    b"tftp C0A80102 42*600\nfate 2 12 12 12 12 12 12 12 12\nfate 3 7 7 7 7 7 7 7 7\n";
+    b"tftp C0A80102 42*600\nparams sparky root=boss:/export/root/sparky\nfate 2 12 12 12 12 12 12 12 12\nfate 3 7 7 7 7 7 7 7 7\n";
 
 #[test]
 fn boots_from_the_first_of_sixteen_sessions(rt: HostRuntime) -> Result<(), Fail> {
@@ -251,7 +279,7 @@ fn boots_from_the_first_of_sixteen_sessions(rt: HostRuntime) -> Result<(), Fail>
         &rt,
         rt.alloc(),
         &lines,
-        b"\nboot unbuilt whoami program 42*600\n",
+        b"\nboot unbuilt mnt program 42*600\n",
     )
 }
 

@@ -1,14 +1,16 @@
 ghost use Rattle.std.specs.Prelude.{◌≡◌, ◌≢◌, IsTrue, ◌↔◌, IfSome};
 ghost use Rattle.sd_link.specs.declared.config.SwapLine.{SwapLine};
 ghost use Rattle.sd_script.specs.Judging.{Judges};
-ghost use Rattle.sd_script.specs.Lines.{ArchLine, RootLine, KernelLine, SwapFileLine, MayBeRoot, MayBeSwap};
+ghost use Rattle.sd_script.specs.Lines.{ArchLine, HostLine, MayAddHost, RootLine, KernelLine, SwapFileLine, MayBeRoot, MayBeSwap};
 
 use crate::draft::{Draft, Section};
 use crate::error::LineError;
-use crate::fields::{take_end, take_name, take_number, take_path};
+use crate::fields::{take_end, take_ip, take_name, take_number, take_path};
+use crate::limits::HOST_COUNT;
 use crate::lines::heading::in_section;
 use crate::parts::Parts;
 use crate::values::same_text;
+use sd_bootparams::Host;
 use sd_link::{Config, SwapLine};
 use sd_outside::ByteList;
 use std::alloc::Global;
@@ -24,6 +26,36 @@ pub fn arch_line(alloc: Global, draft: &mut Draft, mut fields: Parts<'_>) -> Res
         return Err(LineError::Outside);
     }
     draft.config.arch = ByteList::from_slice(alloc, name)?;
+    Ok(())
+}
+
+/// Whether a machine of this name may be added.
+fn may_add_host(config: &Config, name: &[u8]) -> bool
+    ensures { IsTrue result ↔ MayAddHost config.now name.now }
+{
+    config.hosts.as_slice().len() < HOST_COUNT
+        && !same_text(config.server.name.as_slice(), name)
+        && !same_text(config.client.name.as_slice(), name)
+        && config
+            .hosts
+            .as_slice()
+            .iter()
+            .all(|host| !same_text(host.name.as_slice(), name))
+}
+
+/// `host NAME IP`
+pub fn host_line(alloc: Global, draft: &mut Draft, mut fields: Parts<'_>) -> Result<(), LineError>
+    ensures { Judges HostLine draft.old fields.entry draft.new result }
+{
+    in_section(draft, Section::Config)?;
+    let name = take_name(&mut fields)?;
+    let ip = take_ip(&mut fields)?;
+    take_end(&mut fields)?;
+    if !may_add_host(&draft.config, name) {
+        return Err(LineError::Outside);
+    }
+    let name = ByteList::from_slice(alloc, name)?;
+    draft.config.hosts.push(Host { name, ip })?;
     Ok(())
 }
 

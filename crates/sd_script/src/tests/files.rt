@@ -190,7 +190,12 @@ fn judges_configuration_lines(rt: HostRuntime) -> Result<(), Fail> {
 }
 
 /// Adds lines that begin so, end so, and have a number of three digits between, from 0 on.
-fn push_lines(text: &mut ByteList, count: usize, begin: &[u8], end: &[u8]) -> Result<(), NoMemory> {
+pub fn push_lines(
+    text: &mut ByteList,
+    count: usize,
+    begin: &[u8],
+    end: &[u8],
+) -> Result<(), NoMemory> {
     for number in 0..count {
         let digits = [
             b'0' + (number / 100 % 10) as u8,

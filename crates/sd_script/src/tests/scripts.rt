@@ -213,7 +213,7 @@ const AFTER: [(&[u8], Option<u64>); 45] = [
     (b"boot \n", Some(7)),
     (b"boot 1\n", Some(7)),
     (b"host 192.168.1.9 other\n", Some(7)),
-    (b"params sparky root=boss:/export\n", Some(7)),
+    (b"params sparky root=boss:/export\n", None),
     (b"stranger 1 frame 00\n", Some(7)),
     (b"out 1 00*8192\n", Some(7)),
     (b"crash 1 1 1 1\n", Some(7)),

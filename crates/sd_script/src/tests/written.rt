@@ -103,10 +103,22 @@ fn writes_the_lines_of_a_transcript(rt: HostRuntime) -> Result<(), Fail> {
         },
         Told::BootTimeout { step: Stage::Tftp },
         Told::BootFlood { step: Stage::Rarp },
+        Told::BootTimeout {
+            step: Stage::Getfile,
+        },
+        Told::BootUnbuilt {
+            step: Stage::Mnt,
+            program: ByteList::empty(alloc),
+        },
+        Told::BootDenied {
+            step: Stage::Getport,
+            code: 15,
+        },
         Told::BootRefused {
             step: Stage::Tftp,
             status: 1,
         },
+        Told::BootNoPort,
         Told::BootTooLarge { size: 33_553_920 },
         Told::BootLinkFault,
         Told::WaitOk { ticks: 5 },
@@ -128,7 +140,11 @@ boot unbuilt whoami program 42*600
 boot unbuilt tftp program -
 boot timeout tftp
 boot flood rarp
+boot timeout getfile
+boot unbuilt mnt program -
+boot denied getport 15
 boot refused tftp 1
+boot noport getport
 boot toolarge 33553920
 boot linkfault
 wait 5 ok

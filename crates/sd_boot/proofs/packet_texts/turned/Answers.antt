@@ -10,5 +10,5 @@ use Rattle.sd_boot.proofs.packet_texts.turned.Goals as goal
 pub returns-in-Show-clause-refused : goal.returns-in-Show-clause-refused
 returns-in-Show-clause-refused c =
     let fits : c.args.end ≤ input_limit = omega (arith, c.if-end-gt-INPUT_LIMIT.false) in
-    subst (λ (d : Direction). IfErr c.shown.result (IsLineRefused d c.args.line.now c.args.end)) (sym c.in-Show.is)
-    (refused_within Show c.args.line.now c.body_of.result.now c.args.end c.shown.result fits c.body_of.ensures c.shown.ensures.refused)
+    subst (λ (d : Direction). IfErr c.shown.result (IsLineRefused d c.args.seen.now c.args.line.now c.args.end)) (sym c.in-Show.is)
+    (refused_within Show c.args.seen.now c.args.line.now c.body_of.result.now c.args.end c.shown.result fits c.body_of.ensures c.shown.ensures.refused)

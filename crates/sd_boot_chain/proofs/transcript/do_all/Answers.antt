@@ -23,7 +23,8 @@ loop-command-init g c =
     let client = c.args.client.now in
     record {
       config = refl;
-      done = λ quiet. moves_not _ (λ a part. IsFor a.config client.config → SessionAt [] before before client.boots a part) (λ h is_for. session_first before client.boots h c.requires.fresh);
+      done = λ quiet. moves_not _ (λ a part. IsFor a.config client.config → SessionAt [] before before client a part) (λ h is_for. session_first before client h c.requires.fresh);
+      calls = omega (arith, c.requires.fresh.1);
       lasts = lasts_none _ 0;
       drained = c.requires.drained;
       faults = omega arith;
@@ -53,15 +54,16 @@ loop-command-preserved g c =
       done = λ quiet.
           let was = c.loop-command.invariant.done (λ rose. quiet (omega (arith, rose, c.text_of.ensures.faults))) in
           let stepped = c.in_ok-text.ensures.done (λ rose. quiet (omega (arith, rose, c.loop-command.invariant.faults))) in
-          let next = c.text_of.new.client.boots in
+          let next = c.text_of.new.client in
           moves_then old mid new
-          (λ a part. IsFor a.config config → SessionAt (take i commands) before so_far client.boots a part)
+          (λ a part. IsFor a.config config → SessionAt (take i commands) before so_far client a part)
           (λ b part. (drained ≡ record_text (whole_record b)) × IsStep client command drained text next b part)
           (λ a part. IsFor a.config config → SessionAt (take (i + 1) commands) before now next a part)
           (λ a b xs ys goes s t is_for. subst (λ (l : List Command). SessionAt l before now next a (xs ++ ys)) (sym more)
           (session_more client (take i commands) command before so_far drained text next a b xs ys goes (subst (λ (k : ClientConfig). IsFor a.config k) (sym same) is_for) (s is_for) t.0 t.1 now wrote))
           was
           (moves_from mid new (IsStep client command drained text next) (λ b. drained ≡ record_text (whole_record b)) c.loop-command.invariant.drained stepped);
+      calls = omega (arith, c.text_of.ensures.calls, c.loop-command.invariant.calls);
       lasts = lasts_then old mid new (i * most_ticks) most_ticks ((i + 1) * most_ticks) (omega arith) c.loop-command.invariant.lasts c.text_of.ensures.lasts;
       drained = c.in_ok-text.ensures.drained;
       faults = omega (arith, c.text_of.ensures.faults, c.loop-command.invariant.faults);
@@ -83,7 +85,7 @@ returns-in_err-text-clause-cut g c = λ quiet.
     let was = c.loop-command.invariant.done (λ rose. quiet (omega (arith, rose, c.text_of.ensures.faults))) in
     on_err c.from_residual.result
     (moves_then (g.L.Link.told c.args.link.now) (g.L.Link.told c.loop-command.link) (g.L.Link.told c.text_of.new.link)
-    (λ a part. IsFor a.config config → SessionAt (take i commands) before so_far c.loop-command.client.boots a part)
+    (λ a part. IsFor a.config config → SessionAt (take i commands) before so_far c.loop-command.client a part)
     (λ b part. Unit {0})
     (λ a part. IsFor a.config config → IsCutSession commands before so_far a part)
     (λ a b xs ys goes s t is_for. session_cut commands i before so_far a xs ys (s is_for).session)
@@ -109,9 +111,9 @@ returns-in-Err-clause-cut g c = λ quiet.
     let more : take (i + 1) commands ≡ take i commands ++ command ∷ [] = take_more commands i Addr (omega arith) in
     let was = c.loop-command.invariant.done (λ rose. quiet (omega (arith, rose, c.text_of.ensures.faults))) in
     let stepped = c.in_ok-text.ensures.done (λ rose. quiet (omega (arith, rose, c.loop-command.invariant.faults))) in
-    let next = c.text_of.new.client.boots in
+    let next = c.text_of.new.client in
     moves_then (g.L.Link.told c.args.link.now) mid new
-    (λ a part. IsFor a.config config → SessionAt (take i commands) before so_far client.boots a part)
+    (λ a part. IsFor a.config config → SessionAt (take i commands) before so_far client a part)
     (λ b part. (drained ≡ record_text (whole_record b)) × IsStep client command drained text next b part)
     (λ a part. IsFor a.config config → IsCutSession commands before now a part)
     (λ a b xs ys goes s t is_for. session_stops client (take i commands) command before so_far drained text next a b xs ys goes (subst (λ (k : ClientConfig). IsFor a.config k) (sym same) is_for) (s is_for) t.0 t.1 commands i now more wrote)
@@ -134,7 +136,7 @@ returns-clause-done g c = λ quiet.
     let before = g.K.Sink.written c.args.sink.now in
     let so_far = g.K.Sink.written c.loop-command.sink in
     moves_weaker (g.L.Link.told c.args.link.now) (g.L.Link.told c.loop-command.link)
-    (λ a part. IsFor a.config config → SessionAt (take i commands) before so_far c.loop-command.client.boots a part)
+    (λ a part. IsFor a.config config → SessionAt (take i commands) before so_far c.loop-command.client a part)
     (λ a part. IsFor a.config config → IsSession commands before so_far a part)
     (λ a part s is_for. subst (λ (l : List Command). IsSession l before so_far a part) (take_all i commands (omega arith)) (s is_for).session)
     (c.loop-command.invariant.done quiet)

@@ -10,7 +10,7 @@ use Rattle.sd_boot_chain.proofs.transcript.text_of.Goals as goal
 pub returns-clause-done : goal.returns-clause-done
 returns-clause-done g c = λ quiet.
     let client = c.args.client.now in
-    let next = c.step.new.self.boots in
+    let next = c.step.new.self in
     let command = c.args.command.now in
     let answer = c.in_ok-answer.answer in
     let before = g.L.Link.told c.args.link.now in

@@ -1,4 +1,4 @@
-use Rattle.sd_show.proofs.Once.{one_text}
+use Rattle.sd_show.proofs.OneShown.{one_text}
 use Rattle.sd_show.proofs.laws.one_text.Goals as goal
 
 pub returns : goal.returns

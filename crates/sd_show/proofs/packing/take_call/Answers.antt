@@ -1,28 +1,39 @@
+use Rattle.std.proofs.Common.{◌≡◌, List, sym, ◌∙◌, subst}
 use Rattle.std.proofs.lemmas.Result.{err_from_is_err_and}
+use Rattle.sd_link.specs.Texts.{Text}
 use Rattle.sd_script.proofs.Exits.{handed_on, others}
-use Rattle.std.proofs.Common.{sym, refl, ◌∙◌}
-use Rattle.sd_show.proofs.Behind.{procedure_again, auths_behind, call_stands}
+use Rattle.sd_show.specs.Calls.{procedure_of}
+use Rattle.sd_show.specs.Packing.{AskedStands, AuthsStand}
+use Rattle.sd_show.proofs.CallWords.{call_stands, call_of, asked_ends}
 use Rattle.sd_show.proofs.packing.take_call.Goals as goal
+
+pub returns-in_err-xid : goal.returns-in_err-xid
+returns-in_err-xid c =
+    let p = err_from_is_err_and c.from_residual.result c.from_residual.ensures.1 in
+    rw (p.1, p.2) (handed_on c.in_err-xid.field-0.0 c.in_err-xid.ensures (λ refuses m rest h.
+    let d = call_of m c.args.fields.now rest h in
+    refuses d.text d.behind m.xid d.begins d.xid))
 
 pub returns-in_err-procedure : goal.returns-in_err-procedure
 returns-in_err-procedure c =
     let p = err_from_is_err_and c.from_residual-in_err-procedure.result c.from_residual-in_err-procedure.ensures.1 in
-    rw (p.1, p.2) (handed_on c.in_err-procedure.field-0.0 c.in_err-procedure.ensures (λ none z rest h. none h.1.4.0 h.1.4.1 record { prog = z.prog; vers = z.vers; proc_no = z.proc_no } (others (sym (c.in_ok-xid.ensures).1 ∙ h.1.2) ∙ h.1.4.2) (procedure_again h.1.4.0 record { prog = z.prog; vers = z.vers; proc_no = z.proc_no } h.0.0.1 h.0.0.2 h.0.0.3 h.1.4.3)))
-
-pub returns-in_err-args : goal.returns-in_err-args
-returns-in_err-args c =
-    let p = err_from_is_err_and c.from_residual-in_err-args.result c.from_residual-in_err-args.ensures.1 in
-    rw (p.1, p.2) (handed_on c.in_err-args.field-0.0 c.in_err-args.ensures (λ none z rest h. none h.1.4.4.0 h.1.4.4.1 z.args (others (sym (c.in_ok-procedure.ensures).1 ∙ others (sym (c.in_ok-xid.ensures).1 ∙ h.1.2) ∙ h.1.4.2) ∙ h.1.4.4.2) record { is = h.1.4.4.3; within = h.0.1 }))
+    rw (p.1, p.2) (handed_on c.in_err-procedure.field-0.0 c.in_err-procedure.ensures (λ refuses m rest h.
+    let d = call_of m c.args.fields.now rest h in
+    let same = others (sym d.begins ∙ (c.in_ok-xid.ensures).1) in
+    refuses (procedure_of m, m.args) d.mid (subst (λ (u : List Text). AskedStands (procedure_of m, m.args) u d.mid) same d.asks)))
 
 pub returns-in_err-cred : goal.returns-in_err-cred
 returns-in_err-cred c =
     let p = err_from_is_err_and c.from_residual-in_err-cred.result c.from_residual-in_err-cred.ensures.1 in
-    rw (p.1, p.2) (handed_on c.in_err-cred.field-0.0 c.in_err-cred.ensures (λ none z rest h. none (z.cred, z.verf) rest (auths_behind z h.1.4.4.1 c.take_runs.new.fields rest h.0 (others (sym (c.in_ok-args.ensures).1 ∙ others (sym (c.in_ok-procedure.ensures).1 ∙ others (sym (c.in_ok-xid.ensures).1 ∙ h.1.2) ∙ h.1.4.2) ∙ h.1.4.4.2)) h.1.4.4.4)))
+    rw (p.1, p.2) (handed_on c.in_err-cred.field-0.0 c.in_err-cred.ensures (λ refuses m rest h.
+    let d = call_of m c.args.fields.now rest h in
+    let same = others (sym d.begins ∙ (c.in_ok-xid.ensures).1) in
+    let asks : AskedStands (procedure_of m, m.args) c.take_number.new.words d.mid = subst (λ (u : List Text). AskedStands (procedure_of m, m.args) u d.mid) same d.asks in
+    let ends : d.mid ≡ c.take_asked.new.fields =
+    asked_ends (c.in_ok-procedure.procedure, c.in_ok-procedure.args) (procedure_of m, m.args) c.take_number.new.words c.take_asked.new.fields d.mid (c.in_ok-procedure.ensures) asks in
+    refuses (m.cred, m.verf) rest (subst (λ (u : List Text). AuthsStand (m.cred, m.verf) u rest) ends d.auths)))
 
 pub returns : goal.returns
 returns c =
-    let xid = (c.in_ok-xid.ensures) in
-    let procedure = (c.in_ok-procedure.ensures) in
-    let args = (c.in_ok-args.ensures) in
-    call_stands _ xid.0 procedure.0 args.0 c.in_ok-procedure.procedure c.args.fields.now c.take_number.new.fields c.take_procedure.new.fields c.take_runs.new.fields c.take_auths.new.fields
-    xid.1 xid.2 procedure.1 procedure.2 refl procedure.2.prog procedure.2.vers procedure.2.proc_no args.1 args.2 c.in_ok-cred.ensures
+    let x = c.in_ok-xid.ensures in
+    call_stands _ c.in_ok-procedure.procedure c.in_ok-procedure.args c.in_ok-cred.cred c.in_ok-cred.verf x.0 c.args.fields.now c.take_number.new.words c.take_asked.new.fields c.take_auths.new.fields x.1 x.2 (c.in_ok-procedure.ensures) (c.in_ok-cred.ensures)

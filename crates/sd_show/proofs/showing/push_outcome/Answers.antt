@@ -13,9 +13,12 @@ returns-in_ok-push_accepted-in-ProgMismatch c =
     (exact (decimal c.in-ProgMismatch.low) ∷ exact (decimal c.in-ProgMismatch.high) ∷ [])
     c.in_ok-push_accepted-in-ProgMismatch.ensures e) c.push_range.ensures)
 
+pub returns-in-ProcUnavail : goal.returns-in-ProcUnavail
+returns-in-ProcUnavail c = rw c.in-ProcUnavail.is c.push_accepted-in-ProcUnavail.ensures
+
 pub returns-in_ok-push_word-in-RpcMismatch : goal.returns-in_ok-push_word-in-RpcMismatch
 returns-in_ok-push_word-in-RpcMismatch c =
-    let mid = c.push_word-in-RpcMismatch.new.text in
+    let mid = c.push_word.new.text in
     rw c.in-RpcMismatch.is (on_ok_weaker c.push_range-in-RpcMismatch.result
     (λ e. added c.args.text.now mid c.push_range-in-RpcMismatch.new.text (exact (codes "rpcmismatch") ∷ [])
     (exact (decimal c.in-RpcMismatch.low) ∷ exact (decimal c.in-RpcMismatch.high) ∷ [])

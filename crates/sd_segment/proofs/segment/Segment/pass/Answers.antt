@@ -1,14 +1,31 @@
-use Rattle.std.proofs.Common.{◌≡◌, ◌+◌, ◌<◌, [], ◌∷◌, map, ◌∙◌, sym, subst}
+use Rattle.std.proofs.Common.{◌≡◌, ◌+◌, ◌<◌, List, [], ◌∷◌, map, ◌∙◌, sym, ap, subst}
+use Rattle.std.specs.List.Sorted.{IsNonDecreasingBy}
+use Rattle.sd_link.specs.World.{World}
 use Rattle.sd_link.specs.Events.{fate_in, fates_of}
 use Rattle.sd_link.specs.Lawful.{due, due_to_server, due_to_client}
 use Rattle.sd_link.specs.Link.{last_tick}
 use Rattle.sd_link.specs.Steps.{Tick, goes_to_server, goes_to_client}
+use Rattle.sd_segment.specs.declared.flown.Flown.{Flown}
 use Rattle.sd_segment.specs.Flight.{flying_of}
+use Rattle.sd_segment.specs.Kept.{steps_kept}
 use Rattle.sd_segment.specs.Inside.{view_of}
 use Rattle.sd_segment.specs.Segment.{SegmentView, Rests, world_at}
 use Rattle.sd_segment.specs.Passing.{Passes}
+use Rattle.sd_segment.proofs.Ascending.{flight_ascends}
 use Rattle.sd_segment.proofs.Passing.{tick_next, sound_tick, passes_tick}
 use Rattle.sd_segment.proofs.segment.Segment.pass.Goals as goal
+
+pub due_ids-requires-clause-ascends : goal.due_ids-requires-clause-ascends
+due_ids-requires-clause-ascends c =
+    let s = view_of c.self.inside in
+    subst (λ (l : List Flown). IsNonDecreasingBy (λ (f : Flown). f.tick) l) (sym c.as_slice-flight.ensures.value)
+    (flight_ascends s.config (steps_kept s.flight s.kept s.tick) s.flight (ap (λ (w : World). w.flight) c.self.invariant.keeps.world))
+
+pub due_ids-requires-2-clause-ascends : goal.due_ids-requires-2-clause-ascends
+due_ids-requires-2-clause-ascends c =
+    let s = view_of c.self.inside in
+    subst (λ (l : List Flown). IsNonDecreasingBy (λ (f : Flown). f.tick) l) (sym c.as_slice-flight.ensures.value)
+    (flight_ascends s.config (steps_kept s.flight s.kept s.tick) s.flight (ap (λ (w : World). w.flight) c.self.invariant.keeps.world))
 
 pub invariant_of-self : goal.invariant_of-self
 invariant_of-self c =

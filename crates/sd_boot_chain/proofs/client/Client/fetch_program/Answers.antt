@@ -1,0 +1,25 @@
+use Rattle.std.proofs.Common.{subst, arith}
+use Rattle.std.proofs.lemmas.Result.{IfOk-weaker}
+use Rattle.sd_link.specs.Link.{Moves}
+use Rattle.sd_rpc_retry.proofs.Lasting.{lasts_then}
+use Rattle.sd_boot_chain.specs.declared.fetch.Fetched.TheVariants as came
+use Rattle.sd_boot_chain.specs.Address.{shows_learned}
+use Rattle.sd_boot_chain.specs.Fetch.{fetch_of, CameOf}
+use Rattle.sd_boot_chain.specs.Durations.{most_fetch_ticks, most_calls_ticks, most_boot_ticks}
+use Rattle.sd_boot_chain.proofs.Booting.{program_answer}
+use Rattle.sd_boot_chain.proofs.client.Client.fetch_program.Goals as goal
+
+pub returns-in-File-clause-lasts : goal.returns-in-File-clause-lasts
+returns-in-File-clause-lasts g c = lasts_then _ _ _ most_fetch_ticks most_calls_ticks most_boot_ticks (omega arith) c.fetch.ensures.lasts c.find_root.ensures.lasts
+
+pub returns-in-File-clause-caused : goal.returns-in-File-clause-caused
+returns-in-File-clause-caused g c = λ quiet.
+    let client = c.args.self.now in
+    let learned = shows_learned c.args.learned in
+    let old = g.L.Link.told c.args.link.now in
+    let mid = g.L.Link.told c.fetch.new.link in
+    let new = g.L.Link.told c.find_root.new.link in
+    let fetched = subst (λ e. Moves old mid (λ h part. CameOf (fetch_of c.in_ok-task.task) e part)) c.in-File.is c.in_ok-program.ensures.told in
+    let calm = IfOk-weaker c.find_root.result _ _ (λ answer f fault. quiet (omega (arith, f fault, c.fetch.ensures.faults))) c.find_root.ensures.fault in
+    program_answer client c.count_boot.new.self c.find_root.new.self learned c.in-File.program old mid new c.find_root.result c.count_boot.ensures.same c.count_boot.ensures.counted c.count_boot.ensures.xid c.find_root.ensures.boots
+    calm (subst (λ f. Moves old mid (λ h part. CameOf f (came.File c.in-File.program) part)) c.in_ok-task.ensures.task fetched) c.find_root.ensures.told

@@ -1,0 +1,244 @@
+//! How the client finds its root after its boot program was fetched: it asks for its name and for its root (bootparams), and
+//! then for the port of MOUNT at the server of its root (RFC 1057, appendix A).
+ghost use Rattle.std.specs.Prelude.{◌≡◌, ◌<◌, ◌≤◌, ◌+◌, ◌-◌, ◌^◌, length, codes, IfOk, IfErr, OnOk, Ok, Result};
+ghost use Rattle.sd_bootparams.specs.Layout.{name_limit, key_limit};
+ghost use Rattle.sd_outside.specs.Causes.{Rose};
+ghost use Rattle.sd_link.specs.Link.{Moves};
+ghost use Rattle.sd_link.specs.declared.link.Stage.TheVariants as stage;
+ghost use Rattle.sd_rpc_retry.specs.declared.calling.CallError.TheVariants as error;
+ghost use Rattle.sd_rpc_retry.specs.declared.calling.Answer.TheVariants as answers;
+ghost use Rattle.sd_rpc_retry.specs.Calling.{AskFits};
+ghost use Rattle.sd_rpc_retry.specs.Calls.{IsAnswerTo};
+ghost use Rattle.sd_rpc_retry.specs.Lasting.{Lasts, most_asking_ticks};
+ghost use Rattle.sd_claims.specs.Booting.{CallTold, after_call, portmapper, whoami_call, getfile_call, getport_call};
+ghost use Rattle.sd_boot_chain.specs.Durations.{most_calls_ticks};
+ghost use Rattle.sd_boot_chain.specs.Root.{CallCame, LeadsTo, CallsCame, calls_of, answer_without, answer_to};
+
+use sd_link::{Link, Stage};
+use sd_outside::{Addr, ByteList, NoMemory};
+use sd_rpc_retry::{Answer, Ask, CallError, Caller};
+use sd_script::Told;
+use std::alloc::Global;
+
+/// The portmapper's port.
+const PORTMAPPER: u16 = 111;
+
+/// Everyone on this network.
+const EVERYONE: u32 = 0xffff_ffff;
+
+/// MOUNT, version 1 (RFC 1094, appendix A).
+const MOUNT: u32 = 100_005;
+
+const MOUNT_VERSION: u32 = 1;
+
+/// The call of a step has no answer.
+#[derive(Clone, Copy)]
+pub(crate) struct Unanswered {
+    pub step: Stage,
+    pub error: CallError,
+}
+
+/// What the client is called.
+#[derive(Drop)]
+pub(crate) struct Named {
+    /// The address of who said so.
+    pub from: u32,
+    /// The client's name, of at most 255 bytes.
+    pub client: ByteList,
+}
+
+/// The portmapper of a machine.
+fn portmapper(ip: u32) -> Addr
+    ensures { result ≡ portmapper ip }
+{
+    Addr {
+        ip,
+        port: PORTMAPPER,
+    }
+}
+
+/// Makes the call of a step.
+fn ask_at<L: Link>(
+    alloc: Global,
+    link: &mut L,
+    caller: &mut Caller,
+    step: Stage,
+    dst: Addr,
+    asked: &Ask,
+) -> Result<Answer, Unanswered>
+    requires xid { caller.old.next_xid < 2 ^ 32 - 1 }
+    requires tries { caller.old.tries ≤ 64 }
+    requires wait { caller.old.wait ≤ 1000 }
+    requires machine { length caller.old.machine ≤ 255 }
+    requires fits { AskFits asked.now }
+    ensures xid { caller.new ≡ after_call caller.old }
+    ensures told { Moves (L.told link.old) (L.told link.new) (CallCame (λ answer. CallTold (Ok answer)) caller.old (record { dst = dst; ask = asked.now }) result) }
+    ensures answers { IfOk result (IsAnswerTo asked.now) }
+    ensures step { IfErr result (λ why. why.step ≡ step) }
+    ensures lasts { Lasts most_asking_ticks (L.told link.old) (L.told link.new) }
+    ensures fault { IfErr result (λ why. why.error ≡ error.LinkFault → Rose (L.faults link.old) (L.faults link.new)) }
+    ensures faults { L.faults link.old ≤ L.faults link.new }
+    ensures drained { L.drained link.new ≡ L.drained link.old }
+{
+    match caller.call(alloc, link, dst, asked).answer {
+        Ok(answer) => Ok(answer),
+        Err(error) => Err(Unanswered { step, error }),
+    }
+}
+
+/// Asks everyone for the client's name.
+fn whoami<L: Link>(alloc: Global, link: &mut L, caller: &mut Caller) -> Result<Named, Unanswered>
+    requires xid { caller.old.next_xid < 2 ^ 32 - 1 }
+    requires tries { caller.old.tries ≤ 64 }
+    requires wait { caller.old.wait ≤ 1000 }
+    requires machine { length caller.old.machine ≤ 255 }
+    ensures xid { caller.new ≡ after_call caller.old }
+    ensures told { Moves (L.told link.old) (L.told link.new) (CallCame (λ named. LeadsTo (getfile_call named.from named.client (codes "root"))) caller.old (whoami_call caller.old.ip) result) }
+    ensures fits { IfOk result (λ named. length named.client ≤ name_limit) }
+    ensures step { IfErr result (λ why. why.step ≡ stage.Whoami) }
+    ensures lasts { Lasts most_asking_ticks (L.told link.old) (L.told link.new) }
+    ensures fault { IfErr result (λ why. why.error ≡ error.LinkFault → Rose (L.faults link.old) (L.faults link.new)) }
+    ensures faults { L.faults link.old ≤ L.faults link.new }
+    ensures drained { L.drained link.new ≡ L.drained link.old }
+{
+    let asked = Ask::Whoami { ip: caller.ip };
+    let answer = ask_at(
+        alloc,
+        link,
+        caller,
+        Stage::Whoami,
+        portmapper(EVERYONE),
+        &asked,
+    )?;
+    match answer {
+        Answer::Whoami { from, client, .. } => Ok(Named { from, client }),
+        Answer::Getfile { .. } => unreachable!(),
+        Answer::Port(_) => unreachable!(),
+    }
+}
+
+/// Asks who told the client's name for the server of the file that a key stands for, and gives its address.
+fn getfile<L: Link>(
+    alloc: Global,
+    link: &mut L,
+    caller: &mut Caller,
+    named: Named,
+    key: ByteList,
+) -> Result<u32, Unanswered>
+    requires xid { caller.old.next_xid < 2 ^ 32 - 1 }
+    requires tries { caller.old.tries ≤ 64 }
+    requires wait { caller.old.wait ≤ 1000 }
+    requires machine { length caller.old.machine ≤ 255 }
+    requires client { length named.client ≤ name_limit }
+    requires key { length key ≤ key_limit }
+    ensures xid { caller.new ≡ after_call caller.old }
+    ensures told { Moves (L.told link.old) (L.told link.new) (CallCame (λ server. LeadsTo (getport_call server)) caller.old (getfile_call named.from named.client key) result) }
+    ensures step { IfErr result (λ why. why.step ≡ stage.Getfile) }
+    ensures lasts { Lasts most_asking_ticks (L.told link.old) (L.told link.new) }
+    ensures fault { IfErr result (λ why. why.error ≡ error.LinkFault → Rose (L.faults link.old) (L.faults link.new)) }
+    ensures faults { L.faults link.old ≤ L.faults link.new }
+    ensures drained { L.drained link.new ≡ L.drained link.old }
+{
+    let dst = portmapper(named.from);
+    let asked = Ask::Getfile {
+        client: named.client,
+        key,
+    };
+    let answer = ask_at(alloc, link, caller, Stage::Getfile, dst, &asked)?;
+    match answer {
+        Answer::Getfile { ip, .. } => Ok(ip),
+        Answer::Whoami { .. } => unreachable!(),
+        Answer::Port(_) => unreachable!(),
+    }
+}
+
+/// Asks a server for the port of MOUNT, which is 0 where it has none.
+fn getport<L: Link>(
+    alloc: Global,
+    link: &mut L,
+    caller: &mut Caller,
+    server: u32,
+) -> Result<u16, Unanswered>
+    requires xid { caller.old.next_xid < 2 ^ 32 - 1 }
+    requires tries { caller.old.tries ≤ 64 }
+    requires wait { caller.old.wait ≤ 1000 }
+    requires machine { length caller.old.machine ≤ 255 }
+    ensures xid { caller.new ≡ after_call caller.old }
+    ensures told { Moves (L.told link.old) (L.told link.new) (CallCame (λ port. CallTold (Ok (answers.Port port))) caller.old (getport_call server) result) }
+    ensures step { IfErr result (λ why. why.step ≡ stage.Getport) }
+    ensures lasts { Lasts most_asking_ticks (L.told link.old) (L.told link.new) }
+    ensures fault { IfErr result (λ why. why.error ≡ error.LinkFault → Rose (L.faults link.old) (L.faults link.new)) }
+    ensures faults { L.faults link.old ≤ L.faults link.new }
+    ensures drained { L.drained link.new ≡ L.drained link.old }
+{
+    let asked = Ask::Getport {
+        prog: MOUNT,
+        vers: MOUNT_VERSION,
+    };
+    let answer = ask_at(
+        alloc,
+        link,
+        caller,
+        Stage::Getport,
+        portmapper(server),
+        &asked,
+    )?;
+    match answer {
+        Answer::Port(port) => Ok(port),
+        Answer::Whoami { .. } => unreachable!(),
+        Answer::Getfile { .. } => unreachable!(),
+    }
+}
+
+/// Makes the three calls, of which the second asks for `root`, and gives the port of MOUNT, or 0 where there is none.
+pub(crate) fn find_mount<L: Link>(
+    alloc: Global,
+    link: &mut L,
+    caller: &mut Caller,
+    root: ByteList,
+) -> Result<u16, Unanswered>
+    requires xid { caller.old.next_xid < 2 ^ 32 - 3 }
+    requires tries { caller.old.tries ≤ 64 }
+    requires wait { caller.old.wait ≤ 1000 }
+    requires machine { length caller.old.machine ≤ 255 }
+    requires root { root ≡ codes "root" }
+    ensures counted { caller.new.next_xid ≡ caller.old.next_xid + calls_of result }
+    ensures told { Moves (L.told link.old) (L.told link.new) (λ old part. CallsCame caller.old result part) }
+    ensures lasts { Lasts most_calls_ticks (L.told link.old) (L.told link.new) }
+    ensures fault { IfErr result (λ why. why.error ≡ error.LinkFault → Rose (L.faults link.old) (L.faults link.new)) }
+    ensures faults { L.faults link.old ≤ L.faults link.new }
+    ensures drained { L.drained link.new ≡ L.drained link.old }
+{
+    let named = whoami(alloc, link, caller)?;
+    let server = getfile(alloc, link, caller, named, root)?;
+    let port = getport(alloc, link, caller, server)?;
+    Ok(port)
+}
+
+/// The answer to a boot one of whose calls has no answer.
+fn answer_without(unanswered: Unanswered) -> Result<Told, NoMemory>
+    ensures { result ≡ answer_without unanswered.step unanswered.error }
+{
+    let step = unanswered.step;
+    match unanswered.error {
+        CallError::Timeout => Ok(Told::BootTimeout { step }),
+        CallError::Flood => Ok(Told::BootFlood { step }),
+        CallError::Denied { code } => Ok(Told::BootDenied { step, code }),
+        CallError::LinkFault => Ok(Told::BootLinkFault),
+        CallError::NoMemory => Err(NoMemory),
+    }
+}
+
+/// The answer to a boot whose program was fetched.
+pub(crate) fn answer_to(program: ByteList, found: Result<u16, Unanswered>) -> Result<Told, NoMemory>
+    ensures { result ≡ answer_to program found }
+{
+    match found {
+        Ok(0) => Ok(Told::BootNoPort),
+        Ok(_) => Ok(Told::BootUnbuilt {
+            step: Stage::Mnt,
+            program,
+        }),
+        Err(unanswered) => answer_without(unanswered),
+    }
+}
