@@ -1,6 +1,6 @@
 use Rattle.std.proofs.Common.{◌≡◌, ◌≤◌, ◌+◌, ◌*◌, take}
 use Rattle.sd_outside.specs.Causes.{Rose}
-use Rattle.sd_link.specs.Config.{IsFor}
+use Rattle.sd_config.specs.Config.{IsFor}
 use Rattle.sd_link.specs.Link.{Moves, IsDrained}
 use Rattle.sd_boot_chain.proofs.Stepping.{SessionAt}
 use Rattle.sd_rpc_retry.specs.Lasting.{Lasts}
