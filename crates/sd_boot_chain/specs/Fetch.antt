@@ -10,7 +10,7 @@ use Rattle.std.specs.List.{concat}
 use Rattle.sd_config.specs.Config.{IsConfig}
 use Rattle.sd_config.specs.Program.{boot_file}
 use Rattle.sd_link.specs.Requests.{AsksOnlyFor, KeepsOffRpc}
-use Rattle.sd_link.specs.Steps.{Step, Send, History, IsLawfulSoFar, world_of}
+use Rattle.sd_link.specs.Steps.{Step, Send, History, world_of}
 use Rattle.sd_claims.specs.Fetching.{Fetch, Fetched, FetchTimedOut, FetchFlooded, FetchRefused, FetchTooLarge, progress, courtesy}
 use Rattle.sd_rpc_retry.specs.declared.asking.Look.{Look}
 use Rattle.sd_rpc_retry.specs.declared.asking.Look.TheVariants as look
@@ -58,11 +58,10 @@ IsFetchFault (came.Refused code) = ⊥
 IsFetchFault (came.TooLarge got) = ⊥
 IsFetchFault came.Fault = Unit {0}
 
--- What was asked before is a run of the configuration, the server is asked, no other file was ever asked for from this address and
+-- The world is one of the configuration, the server is asked, no other file was ever asked for from this address and
 -- port, and nothing was ever sent from there to the RPC programs.
 pub record MayTrust (f : Fetch) (old : History) : Type 0 where
   pub rules : IsConfig old.config
-  pub lawful : IsLawfulSoFar old
   pub server : f.server ≡ old.config.server.ip
   pub asks : AsksOnlyFor f.me f.name (world_of old)
   pub keeps_off : KeepsOffRpc f.me (world_of old)

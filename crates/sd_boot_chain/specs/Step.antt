@@ -3,6 +3,7 @@ use Rattle.std.specs.Prelude.{◌≡◌, ℕ, ◌%◌, List, ◌++◌}
 use Rattle.sd_config.specs.declared.config.ClientConfig.{ClientConfig}
 use Rattle.sd_config.specs.Config.{IsFor}
 use Rattle.sd_link.specs.Steps.{Step, History, world_of, whole_record, record_of}
+use Rattle.sd_link.specs.Link.{IsAtRestBy}
 use Rattle.sd_link.specs.Printing.{record_text}
 use Rattle.sd_config.specs.declared.command.Command.{Command}
 use Rattle.sd_config.specs.declared.told.Told.{Told}
@@ -50,8 +51,10 @@ abbrev pub IsDone : ClientView → Command → Told → ClientView → History �
 IsDone client command answer next old part =
     IsFor old.config client.config → (n : Counts) → HasCounted client n → IsAnswered n command answer old part × HasCounted next (counts_after n answer)
 
--- Where the record was drained before, the text is the new lines and the answer line.
+-- Where the record was drained before, the text is the new lines and the answer line. The server is done with the tick at which the
+-- command ended.
 pub record IsStep (client : ClientView) (command : Command) (drained text : List ℕ) (next : ClientView) (old : History) (part : List Step) : Type 0 where
   pub answer : Told
   pub answered : IsDone client command answer next old part
   pub shown : drained ≡ record_text (whole_record old) → text ≡ record_text (record_of old.config (world_of old) part) ++ answer_line answer
+  pub rests : IsAtRestBy old part

@@ -5,7 +5,7 @@ use Rattle.std.specs.Fmt.{decimal}
 use Rattle.sd_outside.specs.Streams.{Gains}
 use Rattle.sd_link.specs.World.{start}
 use Rattle.sd_config.specs.Events.{fates_of}
-use Rattle.sd_link.specs.Lawful.{IsLawful, IsFrontOf}
+use Rattle.sd_link.specs.Lawful.{IsLawful, EndsAtRest, IsFrontOf}
 use Rattle.sd_config.specs.declared.command.Command.{Command}
 use Rattle.sd_config.specs.declared.command.Command.TheVariants.{Boot}
 use Rattle.sd_script.specs.declared.script.Script.{Script}
@@ -41,10 +41,11 @@ IsOk (WaitOk shown) = Unit {0}
 IsOk (WaitFlood shown) = ⊥
 IsOk (WaitLinkFault shown) = ⊥
 
--- These commands of the script were done so: the run is one that the network owes the script, from the start on;
--- the answers are those of the boot machine; each is earned or caused by its part; and in a calm script all are ok.
+-- These commands of the script were done so: the run is one that the network owes the script, from the start on, and it ends where
+-- the server has done all that was due to it; the answers are those of the boot machine; each is earned or caused by its part; and in a calm script all are ok.
 pub record AreDone (s : Script) (commands : List Command) (done : List Done) : Type 0 where
   pub lawful : IsLawful s.config (fates_of s.events) (parts_of done)
+  pub rests : EndsAtRest s.config (fates_of s.events) (parts_of done)
   pub machine : IsRun s.config first_state commands (map (λ d. d.answer) done)
   pub caused : AllCaused s.config first_counts commands done
   pub complete : IsCalm s → AllByRecursion (λ d. IsOk d.answer) done
