@@ -1,13 +1,19 @@
 -- What an answer shows was configured, and came in its part.
-use Rattle.std.proofs.Common.{ℕ, List, [], ◌∷◌, ◌++◌, refl, sym, ◌∙◌, ap}
+use Rattle.std.proofs.Common.{ℕ, List, [], ◌∷◌, ◌++◌, refl, ◌∙◌, ap, append_assoc}
 use Rattle.sd_link.specs.declared.config.Config.{Config}
+use Rattle.sd_link.specs.declared.link.Stage.{Stage}
 use Rattle.sd_link.specs.declared.link.Stage.TheVariants as stage
-use Rattle.sd_link.specs.Steps.{Step, Get}
-use Rattle.sd_link.specs.Parts.{got_in}
+use Rattle.sd_link.specs.Steps.{Step, Get, History}
+use Rattle.sd_link.specs.Link.{IsSettledBy}
+use Rattle.sd_link.specs.Parts.{sends_in, got_in, ticks_in}
 use Rattle.sd_link.proofs.Histories.{got-append}
-use Rattle.sd_claims.specs.Booting.{Counts, boot_fetch}
-use Rattle.sd_claims.specs.Causes.{EndsUnbuilt}
-use Rattle.sd_claims.specs.Laws.{AddressIsConfigured, ProgramIsConfigured, AddressWasTold, WasFetched, ProgramWasFetched, WaitPassed, NoFaultIsCaused}
+use Rattle.sd_rpc_retry.specs.declared.calling.Caller.{Caller}
+use Rattle.sd_script.specs.declared.script.Command.{Command}
+use Rattle.sd_script.specs.declared.script.Command.TheVariants as command
+use Rattle.sd_script.specs.declared.told.Told.TheVariants as told
+use Rattle.sd_claims.specs.Booting.{Counts, Call, ComesTo, to_whoami, to_getfile, to_getport, boot_fetch}
+use Rattle.sd_claims.specs.Causes.{Cause, addr_ok, boot_unbuilt, wait_ok}
+use Rattle.sd_claims.specs.Laws.{AddressIsConfigured, ProgramIsConfigured, WasTold, AddressWasTold, WasFetched, ProgramWasFetched, WaitPassed, NoFaultIsCaused}
 
 pub address_is_configured : AddressIsConfigured
 address_is_configured c old new ip h = h.0
@@ -15,44 +21,66 @@ address_is_configured c old new ip h = h.0
 pub program_is_configured : ProgramIsConfigured
 program_is_configured c old new step program h = h.0.1
 
-pub address_was_told : AddressWasTold
-address_was_told c n ip part h =
-    let e = h.2.ends in
-    record {
-      earlier = got_in e.before;
-      packet = e.packet;
-      later = [];
-      learned = h.0;
-      got = ap got_in e.cut ∙ got-append e.before (Get e.id e.packet ∷ []);
-      tells = e.matched;
-      address = h.1;
-    }
+module _ (h : History) (n : Counts) where
+  was_told : (ip : ℕ) (part : List Step) → Cause (IsSettledBy h) h.config n command.Addr (told.AddrOk ip) part → WasTold h.config.client.mac ip part
+  was_told _ part (addr_ok learned _ answered) =
+      let e = answered.ends in
+      record {
+        earlier = got_in e.before;
+        packet = e.packet;
+        later = [];
+        learned = learned;
+        got = ap got_in e.cut ∙ got-append e.before (Get e.id e.packet ∷ []);
+        tells = e.matched;
+        address = refl;
+      }
 
-fetched_in : (c : Config) (n : Counts) (program : List ℕ) (part : List Step) → EndsUnbuilt c n stage.Mnt program part → WasFetched c n program part
-fetched_in c n program part h =
-    let f = h.came_of in
-    record {
-      fetch = boot_fetch c n.boots h.learned;
-      before = h.address;
-      within = f.fetch;
-      after = f.calls;
-      cut = h.cut ∙ ap (λ (l : List Step). h.address ++ l) f.cut;
-      fetched = f.fetched;
-      name = refl;
-      port = refl;
-    }
+  -- the fetch comes before each of the calls
+  fetched_before : (program : List ℕ) (step : Stage) (caller : Caller) (call : Call) (part more : List Step) → ComesTo (IsSettledBy h) h.config n program step caller call part → WasFetched h n program (part ++ more)
+  fetched_before program _ _ _ _ more (to_whoami learned address fetch answered fetched) = record {
+    fetch = boot_fetch h.config n.boots learned;
+    before = address;
+    within = fetch;
+    after = more;
+    cut = append_assoc address fetch more;
+    fetched = fetched;
+    name = refl;
+    port = refl;
+  }
+  fetched_before program _ _ _ _ more (to_getfile caller call before last from client domain router to answered) = further program before last more (fetched_before program stage.Whoami caller call before (last ++ more) to)
+    where
+      further : (program : List ℕ) (xs ys zs : List Step) → WasFetched h n program (xs ++ (ys ++ zs)) → WasFetched h n program ((xs ++ ys) ++ zs)
+      further program xs ys zs w = record { fetch = w.fetch; before = w.before; within = w.within; after = w.after; cut = append_assoc xs ys zs ∙ w.cut; fetched = w.fetched; name = w.name; port = w.port }
+  fetched_before program _ _ _ _ more (to_getport caller call before last from server ip path to answered) = further program before last more (fetched_before program stage.Getfile caller call before (last ++ more) to)
+    where
+      further : (program : List ℕ) (xs ys zs : List Step) → WasFetched h n program (xs ++ (ys ++ zs)) → WasFetched h n program ((xs ++ ys) ++ zs)
+      further program xs ys zs w = record { fetch = w.fetch; before = w.before; within = w.within; after = w.after; cut = append_assoc xs ys zs ∙ w.cut; fetched = w.fetched; name = w.name; port = w.port }
+
+  was_fetched : (step : Stage) (program : List ℕ) (part : List Step) → Cause (IsSettledBy h) h.config n command.Boot (told.BootUnbuilt step program) part → WasFetched h n program part
+  was_fetched _ _ part (boot_unbuilt program port _ some came) =
+      let w = fetched_before program stage.Getport came.caller came.call came.before came.last came.to in
+      record { fetch = w.fetch; before = w.before; within = w.within; after = w.after; cut = came.cut ∙ w.cut; fetched = w.fetched; name = w.name; port = w.port }
+
+  passed : (ticks shown : ℕ) (part : List Step) → Cause (IsSettledBy h) h.config n (command.Wait ticks) (told.WaitOk shown) part → (sends_in part ≡ []) × (ticks_in part ≡ shown)
+  passed _ _ part (wait_ok ticks _ waited) = (waited.silent, waited.passed)
+
+  no_addr : (k : Command) (part : List Step) → Cause (IsSettledBy h) h.config n k told.AddrLinkFault part → ⊥
+  no_addr k part caused = elim caused [ ]
+
+  no_boot : (k : Command) (part : List Step) → Cause (IsSettledBy h) h.config n k told.BootLinkFault part → ⊥
+  no_boot k part caused = elim caused [ ]
+
+  no_wait : (k : Command) (ticks : ℕ) (part : List Step) → Cause (IsSettledBy h) h.config n k (told.WaitLinkFault ticks) part → ⊥
+  no_wait k ticks part caused = elim caused [ ]
+
+pub address_was_told : AddressWasTold
+address_was_told h n ip part caused = was_told h n ip part caused.cause
 
 pub program_was_fetched : ProgramWasFetched
-program_was_fetched c n stage.Rarp program part h = absurd h
-program_was_fetched c n stage.Tftp program part h = absurd h
-program_was_fetched c n stage.Whoami program part h = absurd h
-program_was_fetched c n stage.Getfile program part h = absurd h
-program_was_fetched c n stage.Getport program part h = absurd h
-program_was_fetched c n stage.Mnt program part h = fetched_in c n program part h
-program_was_fetched c n stage.Wait program part h = absurd h
+program_was_fetched h n step program part caused = was_fetched h n step program part caused.cause
 
 pub wait_passed : WaitPassed
-wait_passed c n ticks shown part h = (h.1.silent, h.1.passed ∙ sym h.0)
+wait_passed h n ticks shown part caused = passed h n ticks shown part caused.cause
 
 pub no_fault_is_caused : NoFaultIsCaused
-no_fault_is_caused c n ticks shown part = (λ h. h, λ h. h, λ h. h)
+no_fault_is_caused h n k ticks part = (λ caused. no_addr h n k part caused.cause, λ caused. no_boot h n k part caused.cause, λ caused. no_wait h n k ticks part caused.cause)

@@ -1,2 +1,4 @@
-mod Counted
+pub mod Counted
 mod Came
+mod OneOutcome
+mod OneAnswer
