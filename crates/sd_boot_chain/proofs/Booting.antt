@@ -4,20 +4,20 @@ use Rattle.std.specs.Prelude.{◌≤◌, ◌^◌, IfOk}
 use Rattle.std.proofs.lemmas.List.{append_cancel_left}
 use Rattle.sd_outside.specs.declared.errors.NoMemory.{NoMemory}
 use Rattle.sd_outside.specs.declared.packet.Addr.{Addr}
-use Rattle.sd_link.specs.declared.config.Config.{Config}
-use Rattle.sd_link.specs.declared.link.Stage.{Stage}
-use Rattle.sd_link.specs.declared.link.Stage.TheVariants as stage
-use Rattle.sd_link.specs.Config.{IsFor}
-use Rattle.sd_link.specs.Program.{program_name}
+use Rattle.sd_config.specs.declared.config.Config.{Config}
+use Rattle.sd_config.specs.declared.stage.Stage.{Stage}
+use Rattle.sd_config.specs.declared.stage.Stage.TheVariants as stage
+use Rattle.sd_config.specs.Config.{IsFor}
+use Rattle.sd_config.specs.Program.{program_name}
 use Rattle.sd_link.specs.Parts.{ticks_in}
 use Rattle.sd_link.specs.Steps.{Step, History}
 use Rattle.sd_link.specs.Link.{GoesOn, Moves, IsSettledBy}
 use Rattle.sd_link.specs.Tries.{beyond}
 use Rattle.sd_link.proofs.Histories.{moves_then, moves_weaker, goes_then}
-use Rattle.sd_script.specs.declared.script.Command.{Command}
-use Rattle.sd_script.specs.declared.script.Command.TheVariants as commands
-use Rattle.sd_script.specs.declared.told.Told.{Told}
-use Rattle.sd_script.specs.declared.told.Told.TheVariants.{BootUnbuilt, BootTimeout, BootFlood, BootDenied, BootNoPort, BootLinkFault}
+use Rattle.sd_config.specs.declared.command.Command.{Command}
+use Rattle.sd_config.specs.declared.command.Command.TheVariants as commands
+use Rattle.sd_config.specs.declared.told.Told.{Told}
+use Rattle.sd_config.specs.declared.told.Told.TheVariants.{BootUnbuilt, BootTimeout, BootFlood, BootDenied, BootNoPort, BootLinkFault}
 use Rattle.sd_claims.specs.Rarp.{Learned}
 use Rattle.sd_claims.specs.Fetching.{Fetch, Fetched}
 use Rattle.sd_claims.specs.Booting.{Counts, Call, LearnsAddress, OfCall, CallTold, ComesTo, to_whoami, boot_fetch, caller_after, whoami_call}

@@ -9,7 +9,7 @@ use Rattle.sd_boot_chain.specs.declared.pause.Pause.{Pause}
 use Rattle.sd_boot_chain.specs.declared.pause.Pause.TheVariants.{Over, Flood, Fault}
 use Rattle.sd_boot_chain.specs.Pause.{Passes, IsPause, IsWaitAnswer}
 use Rattle.sd_claims.specs.Causes.{wait_ok, wait_flood}
-use Rattle.sd_script.specs.declared.told.Told.TheVariants.{WaitOk, WaitFlood}
+use Rattle.sd_config.specs.declared.told.Told.TheVariants.{WaitOk, WaitFlood}
 use Rattle.sd_rpc_retry.proofs.Settling.{settled-then}
 use Rattle.sd_rpc_retry.proofs.Getting.{short, waited, at_now}
 use Rattle.sd_boot_chain.proofs.Dropping.{Gets, gets_nothing, gets_until, gets_error}

@@ -1,11 +1,11 @@
 -- What is learned of one's own address, in the code's words and in the standard's.
 use Rattle.std.specs.Prelude.{List}
-use Rattle.sd_link.specs.declared.config.ClientConfig.{ClientConfig}
-use Rattle.sd_link.specs.Config.{IsFor}
+use Rattle.sd_config.specs.declared.config.ClientConfig.{ClientConfig}
+use Rattle.sd_config.specs.Config.{IsFor}
 use Rattle.sd_link.specs.Link.{IsSettledBy}
 use Rattle.sd_link.specs.Steps.{Step, History}
-use Rattle.sd_script.specs.declared.script.Command.TheVariants.{Addr}
-use Rattle.sd_script.specs.declared.told.Told.{Told}
+use Rattle.sd_config.specs.declared.command.Command.TheVariants.{Addr}
+use Rattle.sd_config.specs.declared.told.Told.{Told}
 use Rattle.sd_claims.specs.Booting.{Counts}
 use Rattle.sd_claims.specs.Causes.{Cause}
 use Rattle.sd_claims.specs.Ending.{EndsAfter}

@@ -4,8 +4,8 @@ use Rattle.sd_link.specs.Steps.{Step, History, world_of, run}
 use Rattle.sd_link.specs.Parts.{sends_in, got_in}
 use Rattle.sd_link.specs.Link.{IsSettledBy}
 use Rattle.sd_link.specs.Tries.{flood_limit}
-use Rattle.sd_script.specs.declared.script.Command.TheVariants.{Wait}
-use Rattle.sd_script.specs.declared.told.Told.{Told}
+use Rattle.sd_config.specs.declared.command.Command.TheVariants.{Wait}
+use Rattle.sd_config.specs.declared.told.Told.{Told}
 use Rattle.sd_claims.specs.Booting.{Counts}
 use Rattle.sd_claims.specs.Causes.{Cause}
 use Rattle.sd_claims.specs.Ending.{EndsAfter}

@@ -1,16 +1,16 @@
 -- What an answer shows was configured, and came in its part.
 use Rattle.std.proofs.Common.{ℕ, List, [], ◌∷◌, ◌++◌, refl, ◌∙◌, ap, append_assoc}
-use Rattle.sd_link.specs.declared.config.Config.{Config}
-use Rattle.sd_link.specs.declared.link.Stage.{Stage}
-use Rattle.sd_link.specs.declared.link.Stage.TheVariants as stage
+use Rattle.sd_config.specs.declared.config.Config.{Config}
+use Rattle.sd_config.specs.declared.stage.Stage.{Stage}
+use Rattle.sd_config.specs.declared.stage.Stage.TheVariants as stage
 use Rattle.sd_link.specs.Steps.{Step, Get, History}
 use Rattle.sd_link.specs.Link.{IsSettledBy}
 use Rattle.sd_link.specs.Parts.{sends_in, got_in, ticks_in}
 use Rattle.sd_link.proofs.Histories.{got-append}
 use Rattle.sd_rpc_retry.specs.declared.calling.Caller.{Caller}
-use Rattle.sd_script.specs.declared.script.Command.{Command}
-use Rattle.sd_script.specs.declared.script.Command.TheVariants as command
-use Rattle.sd_script.specs.declared.told.Told.TheVariants as told
+use Rattle.sd_config.specs.declared.command.Command.{Command}
+use Rattle.sd_config.specs.declared.command.Command.TheVariants as command
+use Rattle.sd_config.specs.declared.told.Told.TheVariants as told
 use Rattle.sd_claims.specs.Booting.{Counts, Call, ComesTo, to_whoami, to_getfile, to_getport, boot_fetch}
 use Rattle.sd_claims.specs.Causes.{Cause, addr_ok, boot_unbuilt, wait_ok}
 use Rattle.sd_claims.specs.Laws.{AddressIsConfigured, ProgramIsConfigured, WasTold, AddressWasTold, WasFetched, ProgramWasFetched, WaitPassed, NoFaultIsCaused}

@@ -1,13 +1,13 @@
 -- What the client counts, and the ports of its fetches.
 use Rattle.std.proofs.Common.{◌≡◌, ℕ, ◌+◌, ◌<◌, List, refl, inl, inr, arith}
 use Rattle.std.specs.Prelude.{◌⊎◌}
-use Rattle.sd_link.specs.declared.config.Config.{Config}
-use Rattle.sd_link.specs.declared.link.Stage.{Stage}
+use Rattle.sd_config.specs.declared.config.Config.{Config}
+use Rattle.sd_config.specs.declared.stage.Stage.{Stage}
 use Rattle.sd_link.specs.Steps.{Step}
 use Rattle.sd_link.specs.Link.{IsSettledBy}
 use Rattle.sd_rpc_retry.specs.declared.calling.Caller.{Caller}
-use Rattle.sd_script.specs.declared.script.Command.TheVariants as command
-use Rattle.sd_script.specs.declared.told.Told.{Told}
+use Rattle.sd_config.specs.declared.command.Command.TheVariants as command
+use Rattle.sd_config.specs.declared.told.Told.{Told}
 use Rattle.sd_claims.specs.Fetching.{Fetch, FetchTimedOut, FetchFlooded, FetchRefused, FetchTooLarge}
 use Rattle.sd_claims.specs.Booting.{Counts, Call, OfFetch, OfCall, ComesTo, to_whoami, to_getfile, to_getport}
 use Rattle.sd_claims.specs.Causes.{Cause, boot_unbuilt, boot_timeout_rarp, boot_timeout_tftp, boot_timeout_call, boot_flood_rarp, boot_flood_tftp, boot_flood_call, boot_denied, boot_refused, boot_no_port, boot_too_large, reaches, calls_at, counts_after}

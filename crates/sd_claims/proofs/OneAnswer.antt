@@ -8,9 +8,9 @@ use Rattle.sd_tftp.specs.declared.step.Step as answers
 use Rattle.sd_tftp.specs.declared.step.Step.TheVariants as step
 use Rattle.sd_tftp.specs.Reception.{Reception, fresh}
 use Rattle.sd_tftp.specs.ReceiverTurn.{Turn}
-use Rattle.sd_link.specs.declared.config.Config.{Config}
-use Rattle.sd_link.specs.declared.link.Stage.{Stage}
-use Rattle.sd_link.specs.declared.link.Stage.TheVariants as stage
+use Rattle.sd_config.specs.declared.config.Config.{Config}
+use Rattle.sd_config.specs.declared.stage.Stage.{Stage}
+use Rattle.sd_config.specs.declared.stage.Stage.TheVariants as stage
 use Rattle.sd_link.specs.Steps.{Step, Send}
 use Rattle.sd_link.specs.Parts.{got_in}
 use Rattle.sd_link.specs.Tries.{Hearing, beyond, TimedOut, Flooded, flood_limit}
@@ -18,10 +18,10 @@ use Rattle.sd_link.specs.Link.{IsSettledBy}
 use Rattle.sd_rpc_retry.specs.declared.calling.Answer.TheVariants as says
 use Rattle.sd_rpc_retry.specs.declared.calling.Caller.{Caller}
 use Rattle.sd_rpc_retry.specs.Calling.{Verdict, request, hearing_of}
-use Rattle.sd_script.specs.declared.script.Command.{Command}
-use Rattle.sd_script.specs.declared.script.Command.TheVariants as command
-use Rattle.sd_script.specs.declared.told.Told.{Told}
-use Rattle.sd_script.specs.declared.told.Told.TheVariants.{AddrOk, AddrTimeout, AddrFlood, BootUnbuilt, BootTimeout, BootFlood, BootDenied, BootRefused, BootNoPort, BootTooLarge, WaitOk, WaitFlood}
+use Rattle.sd_config.specs.declared.command.Command.{Command}
+use Rattle.sd_config.specs.declared.command.Command.TheVariants as command
+use Rattle.sd_config.specs.declared.told.Told.{Told}
+use Rattle.sd_config.specs.declared.told.Told.TheVariants.{AddrOk, AddrTimeout, AddrFlood, BootUnbuilt, BootTimeout, BootFlood, BootDenied, BootRefused, BootNoPort, BootTooLarge, WaitOk, WaitFlood}
 use Rattle.sd_claims.specs.Rarp.{Learned, rarp_request, rarp_hearing}
 use Rattle.sd_claims.specs.Fetching.{Fetch, Takes, takes_none, takes_block, Brings, request_of, fetch_hearing, acknowledge, FetchTimedOut, FetchFlooded, FetchRefused, FetchTooLarge, Fetched}
 use Rattle.sd_claims.specs.Booting.{Counts, LearnsAddress, Call, OfFetch, OfCall, ComesTo, to_whoami, to_getfile, to_getport, boot_fetch, caller_after, after_call, whoami_call, getfile_call, getport_call, CallTold, CallTimedOut, CallFlooded}

@@ -8,7 +8,7 @@ use Rattle.sd_link.specs.Steps.{Step, Tick, Send, Get}
 use Rattle.sd_link.specs.Parts.{sends_in, got_in}
 use Rattle.sd_link.specs.Tries.{Hearing, AreUnmatched, with_replies, RepliesAtOnce, IsTries, EndsMatched, TimedOut, Flooded, flood_limit}
 use Rattle.sd_link.proofs.Histories.{got-append}
-use Rattle.sd_link.proofs.InFlight.{all_split}
+use Rattle.sd_config.proofs.Lists.{all_split}
 
 -- ---- how tries are cut
 

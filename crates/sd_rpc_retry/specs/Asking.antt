@@ -2,7 +2,7 @@
 use Rattle.std.specs.Prelude.{◌≡◌, ℕ, ◌<◌, ◌≤◌, List, [], ◌∷◌, length, Some, None}
 use Rattle.sd_outside.specs.declared.packet.Packet.{Packet}
 use Rattle.sd_link.specs.Steps.{Step, Send, History, world_of, whole_record, run}
-use Rattle.sd_link.specs.Events.{fates_of}
+use Rattle.sd_config.specs.Events.{fates_of}
 use Rattle.sd_link.specs.Parts.{got_in, ticks_in}
 use Rattle.sd_link.specs.Lawful.{SendsSettled}
 use Rattle.sd_link.specs.Link.{NothingWaits, IsSettledBy}

@@ -8,7 +8,7 @@ use Rattle.hex.proofs.HexLemmas.{decode_sized-ok, decode_sized-twice, decode_siz
 use Rattle.sd_outside.specs.declared.packet.Mac.{Mac}
 use Rattle.sd_link.specs.Texts.{Text}
 use Rattle.sd_script.specs.Texts.{IsMac, IsIp}
-use Rattle.sd_link.specs.declared.config.Machine.{Machine}
+use Rattle.sd_config.specs.declared.config.Machine.{Machine}
 use Rattle.sd_script.specs.Lines.{IsMachine}
 use Rattle.std.proofs.lemmas.Fmt.{decimal_injective}
 use Rattle.sd_script.proofs.Exits.{firsts, others}

@@ -5,7 +5,7 @@ use Rattle.sd_script.specs.declared.error.LineError.{LineError}
 use Rattle.sd_script.specs.declared.draft.Draft.{Draft}
 use Rattle.sd_link.specs.Texts.{Text}
 use Rattle.sd_script.specs.Texts.{IsNumber}
-use Rattle.sd_link.specs.declared.config.Machine.{Machine}
+use Rattle.sd_config.specs.declared.config.Machine.{Machine}
 use Rattle.sd_script.specs.Lines.{IsMachine, IsRest}
 use Rattle.sd_script.specs.Reading.{OnOutside}
 use Rattle.sd_script.specs.declared.error.ScriptError.{ScriptError}

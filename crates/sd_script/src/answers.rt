@@ -5,9 +5,8 @@ ghost use Rattle.std.specs.Fmt.{decimal};
 ghost use Rattle.sd_script.specs.Answers.{answer_text, answer_line, stage_text};
 
 use crate::runs::write_runs;
-use crate::told::Told;
 use crate::writing::{ip_list, push_number};
-use sd_link::Stage;
+use sd_config::{Stage, Told};
 use sd_outside::{ByteList, NoMemory};
 use std::alloc::Global;
 

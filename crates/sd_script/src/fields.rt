@@ -1,7 +1,7 @@
 //! The fields of a line, one after another.
 
 ghost use Rattle.std.specs.Prelude.{◌≡◌, []};
-ghost use Rattle.sd_link.specs.Config.{IsName, IsPath, IsTarget};
+ghost use Rattle.sd_config.specs.Config.{IsName, IsPath, IsTarget};
 ghost use Rattle.sd_script.specs.Texts.{IsNumber, IsMac, IsIp, IsAddr};
 ghost use Rattle.sd_script.specs.Runs.{IsRunsWithin};
 ghost use Rattle.sd_script.specs.Reading.{Reads};

@@ -24,7 +24,6 @@ mod read;
 mod record;
 mod runs;
 mod script;
-mod told;
 mod values;
 mod writing;
 
@@ -37,8 +36,8 @@ pub use parts::Parts;
 pub use read::{body_of, read_script, split_line};
 pub use record::{write_got, write_sent, write_served};
 pub use runs::{read_runs, read_runs_within, write_runs};
-pub use script::{Command, CommandList, Script};
-pub use told::Told;
+pub use script::Script;
+pub use sd_config::{Command, CommandList, Told};
 pub use values::{read_mac, read_number, same_text};
 pub use writing::{addr_list, ip_list, push_number};
 

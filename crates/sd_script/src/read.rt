@@ -11,8 +11,8 @@ use crate::fates::FateBook;
 use crate::limits::INPUT_LIMIT;
 use crate::lines::read_line;
 use crate::parts::place_of;
-use crate::script::{CommandList, Script};
-use sd_link::{Config, Events, Machine};
+use crate::script::Script;
+use sd_config::{CommandList, Config, Events, Machine};
 use sd_outside::{ByteList, ListOf, Mac, NoMemory};
 use std::alloc::Global;
 

@@ -2,7 +2,7 @@
 
 ghost use Rattle.std.specs.Prelude.{◌≡◌, ◌<◌, length, slice_index, IsTrue, ◌↔◌};
 ghost use Rattle.sd_script.specs.Reading.{Finds, Reads};
-ghost use Rattle.sd_link.specs.Config.{IsName, is_name_byte};
+ghost use Rattle.sd_config.specs.Config.{IsName, is_name_byte};
 ghost use Rattle.sd_script.specs.Texts.{IsNumber, IsMac};
 ghost use Rattle.sd_script.specs.Values.{BeginsPlain, IsPairs, is_lower_digit};
 ghost use Rattle.std.specs.List.{AllPass};

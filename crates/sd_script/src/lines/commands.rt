@@ -7,7 +7,7 @@ use crate::error::LineError;
 use crate::fields::{only_number, take_end};
 use crate::limits::COMMAND_LIMIT;
 use crate::parts::Parts;
-use crate::script::Command;
+use sd_config::Command;
 
 /// The next line may be a command line.
 fn may_be_command(section: Section) -> Result<(), LineError>

@@ -1,5 +1,5 @@
 ghost use Rattle.std.specs.Prelude.{◌≡◌, ◌≢◌, IsTrue, ◌↔◌, IfSome};
-ghost use Rattle.sd_link.specs.declared.config.SwapLine.{SwapLine};
+ghost use Rattle.sd_config.specs.declared.config.SwapLine.{SwapLine};
 ghost use Rattle.sd_script.specs.Judging.{Judges};
 ghost use Rattle.sd_script.specs.Lines.{ArchLine, HostLine, MayAddHost, RootLine, KernelLine, SwapFileLine, MayBeRoot, MayBeSwap};
 
@@ -11,7 +11,7 @@ use crate::lines::heading::in_section;
 use crate::parts::Parts;
 use crate::values::same_text;
 use sd_bootparams::Host;
-use sd_link::{Config, SwapLine};
+use sd_config::{Config, SwapLine};
 use sd_outside::ByteList;
 use std::alloc::Global;
 

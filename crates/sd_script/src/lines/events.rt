@@ -8,7 +8,7 @@ use crate::error::LineError;
 use crate::fields::{take_end, take_number};
 use crate::parts::Parts;
 use crate::values::{read_number, same_text};
-use sd_link::{Fate, TickList};
+use sd_config::{Fate, TickList};
 use std::alloc::Global;
 
 /// The next line may be an event line.

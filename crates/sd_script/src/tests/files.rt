@@ -1,6 +1,6 @@
 use crate::tests::scripts::{push_line, refused, with_line};
 use crate::{push_number, read_script, write_runs};
-use sd_link::{Config, RootItem};
+use sd_config::{Config, RootItem};
 use sd_outside::{ByteList, NoMemory};
 use std::test::Fail;
 

@@ -1,8 +1,8 @@
 use Rattle.std.proofs.Common.{subst}
 use Rattle.sd_link.specs.Link.{Moves}
-use Rattle.sd_link.specs.declared.link.Stage.TheVariants as stage
+use Rattle.sd_config.specs.declared.stage.Stage.TheVariants as stage
 use Rattle.sd_link.proofs.Histories.{moves_weaker}
-use Rattle.sd_script.specs.declared.told.Told.TheVariants.{AddrOk, AddrTimeout, AddrFlood}
+use Rattle.sd_config.specs.declared.told.Told.TheVariants.{AddrOk, AddrTimeout, AddrFlood}
 use Rattle.sd_rpc_retry.specs.declared.asking.Asked.TheVariants as asked
 use Rattle.sd_boot_chain.specs.Address.{IsAddrAnswer}
 use Rattle.sd_boot_chain.proofs.Addressing.{AsksAddress, address_told, address_timeout, address_flood}

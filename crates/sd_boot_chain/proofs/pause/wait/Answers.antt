@@ -1,7 +1,7 @@
 use Rattle.std.proofs.Common.{subst}
 use Rattle.sd_link.specs.Link.{Moves}
 use Rattle.sd_link.proofs.Histories.{moves_weaker}
-use Rattle.sd_script.specs.declared.told.Told.TheVariants.{WaitOk, WaitFlood}
+use Rattle.sd_config.specs.declared.told.Told.TheVariants.{WaitOk, WaitFlood}
 use Rattle.sd_boot_chain.specs.declared.pause.Pause.TheVariants.{Over, Flood}
 use Rattle.sd_boot_chain.specs.Pause.{IsPause, IsWaitAnswer}
 use Rattle.sd_boot_chain.proofs.Pausing.{waited_so, flooded_so}
