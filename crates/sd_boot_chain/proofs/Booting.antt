@@ -17,10 +17,10 @@ use Rattle.sd_link.proofs.Histories.{moves_then, moves_weaker, goes_then}
 use Rattle.sd_config.specs.declared.command.Command.{Command}
 use Rattle.sd_config.specs.declared.command.Command.TheVariants as commands
 use Rattle.sd_config.specs.declared.told.Told.{Told}
-use Rattle.sd_config.specs.declared.told.Told.TheVariants.{BootUnbuilt, BootTimeout, BootFlood, BootDenied, BootNoPort, BootLinkFault}
+use Rattle.sd_config.specs.declared.told.Told.TheVariants.{BootUnbuilt, BootTimeout, BootFlood, BootDenied, BootRefused, BootNoPort, BootTooLarge, BootLinkFault}
 use Rattle.sd_claims.specs.Rarp.{Learned}
-use Rattle.sd_claims.specs.Fetching.{Fetch, Fetched}
-use Rattle.sd_claims.specs.Booting.{Counts, Call, LearnsAddress, OfCall, CallTold, ComesTo, to_whoami, boot_fetch, caller_after, whoami_call}
+use Rattle.sd_claims.specs.Fetching.{Fetch, Fetched, FetchTimedOut, FetchFlooded, FetchRefused, FetchTooLarge}
+use Rattle.sd_claims.specs.Booting.{Counts, Call, LearnsAddress, OfFetch, OfCall, CallTold, ComesTo, to_whoami, boot_fetch, caller_after, whoami_call}
 use Rattle.sd_claims.specs.Causes.{Cause, addr_ok, addr_timeout, addr_flood, boot_unbuilt, boot_timeout_rarp, boot_timeout_tftp, boot_timeout_call, boot_flood_rarp, boot_flood_tftp, boot_flood_call, boot_denied, boot_refused, boot_no_port, boot_too_large, wait_ok, wait_flood, reaches, calls_at, counts_at, counts_after}
 use Rattle.sd_claims.specs.Ending.{EndsAfter}
 use Rattle.sd_claims.proofs.Counted.{calls_count}
@@ -210,18 +210,41 @@ boot_unheard client answer a part caused is_for n counted =
     (c.0, boot_ends n answer a part c.0, subst (HasCounted client) (sym c.1) counted)
 
 -- a fetch without a program
-pub fetch_unheard : (client next : ClientView) (learned : Learned) (answer : Told) (old new : Option History) (P : History → List Step → Type 0) → next.boots ≡ (client.boots + 1) % 32768 → next.next_xid ≡ client.next_xid
+unfetched : (client next : ClientView) (learned : Learned) (answer : Told) (old new : Option History) (what : (List Step → Type 0) → Fetch → List Step → Type 0) → next.boots ≡ (client.boots + 1) % 32768 → next.next_xid ≡ client.next_xid
     → ((n : Counts) → counts_after n answer ≡ counted_so n 0)
-    → ((first h : History) (n : Counts) (address part : List Step) → GoesOn first h address → LearnsAddress (IsSettledBy first) first.config learned address → task_of client learned ≡ boot_fetch first.config n.boots learned → P h part
-    → Cause (IsSettledBy first) first.config n commands.Boot answer (address ++ part))
-    → Moves old new P → Moves old new (IsBootAnswer client learned answer next)
-fetch_unheard client next learned answer old new P boots xid counts so m =
-    moves_weaker old new P (IsBootAnswer client learned answer next)
+    → ((settled : List Step → Type 0) (c : Config) (n : Counts) (part : List Step) → OfFetch settled c n what part → Cause settled c n commands.Boot answer part)
+    → Moves old new (λ h part. what (IsSettledBy h) (task_of client learned) part) → Moves old new (IsBootAnswer client learned answer next)
+unfetched client next learned answer old new what boots xid counts row m =
+    moves_weaker old new (λ h part. what (IsSettledBy h) (task_of client learned) part) (IsBootAnswer client learned answer next)
     (λ h part p first address going is_for n counted told. (
-      so first h n address part going told (task_is first.config client n.boots learned is_for counted.0) p,
+      row (IsSettledBy first) first.config n (address ++ part) (record {
+        learned = learned;
+        address = address;
+        last = part;
+        told = told;
+        came_of =
+            subst (λ (still : List Step → Type 0). what still (boot_fetch first.config n.boots learned) part) (settled-beyond first h address going)
+            (subst (λ (f : Fetch). what (IsSettledBy h) f part) (task_is first.config client n.boots learned is_for counted.0) p);
+        cut = refl;
+      }),
       has_counted client next n (counts_after n answer) 0 counted (counts n) boots (xid ∙ sym (add-zero client.next_xid)),
     ))
     m
+
+module _ (client next : ClientView) (learned : Learned) where
+  pub fetch_timeout : (old new : Option History) → next.boots ≡ (client.boots + 1) % 32768 → next.next_xid ≡ client.next_xid → Moves old new (CameOf (task_of client learned) came.Timeout) → Moves old new (IsBootAnswer client learned (BootTimeout stage.Tftp) next)
+  fetch_timeout old new boots xid m = unfetched client next learned (BootTimeout stage.Tftp) old new FetchTimedOut boots xid (λ n. refl) (λ settled c n part h. boot_timeout_tftp part h) m
+
+  pub fetch_flood : (old new : Option History) → next.boots ≡ (client.boots + 1) % 32768 → next.next_xid ≡ client.next_xid → Moves old new (CameOf (task_of client learned) came.Flood) → Moves old new (IsBootAnswer client learned (BootFlood stage.Tftp) next)
+  fetch_flood old new boots xid m = unfetched client next learned (BootFlood stage.Tftp) old new FetchFlooded boots xid (λ n. refl) (λ settled c n part h. boot_flood_tftp part h) m
+
+  pub fetch_refused : (code : ℕ) (old new : Option History) → next.boots ≡ (client.boots + 1) % 32768 → next.next_xid ≡ client.next_xid → Moves old new (CameOf (task_of client learned) (came.Refused code))
+      → Moves old new (IsBootAnswer client learned (BootRefused stage.Tftp code) next)
+  fetch_refused code old new boots xid m = unfetched client next learned (BootRefused stage.Tftp code) old new (FetchRefused code) boots xid (λ n. refl) (λ settled c n part h. boot_refused code part h) m
+
+  pub fetch_large : (size : ℕ) (old new : Option History) → next.boots ≡ (client.boots + 1) % 32768 → next.next_xid ≡ client.next_xid → Moves old new (CameOf (task_of client learned) (came.TooLarge size))
+      → Moves old new (IsBootAnswer client learned (BootTooLarge size) next)
+  fetch_large size old new boots xid m = unfetched client next learned (BootTooLarge size) old new (FetchTooLarge size) boots xid (λ n. refl) (λ settled c n part h. boot_too_large size part h) m
 
 -- ---- an address, and a pause, done
 

@@ -1,5 +1,5 @@
 -- What an answer shows was configured, and came in its part.
-use Rattle.std.proofs.Common.{ℕ, List, [], ◌∷◌, ◌++◌, refl, ◌∙◌, ap, append_assoc}
+use Rattle.std.proofs.Common.{ℕ, List, [], ◌∷◌, ◌++◌, refl, ◌∙◌, ap}
 use Rattle.sd_config.specs.declared.config.Config.{Config}
 use Rattle.sd_config.specs.declared.stage.Stage.{Stage}
 use Rattle.sd_config.specs.declared.stage.Stage.TheVariants as stage
@@ -7,11 +7,11 @@ use Rattle.sd_link.specs.Steps.{Step, Get, History}
 use Rattle.sd_link.specs.Link.{IsSettledBy}
 use Rattle.sd_link.specs.Parts.{sends_in, got_in, ticks_in}
 use Rattle.sd_link.proofs.Histories.{got-append}
-use Rattle.sd_rpc_retry.specs.declared.calling.Caller.{Caller}
 use Rattle.sd_config.specs.declared.command.Command.{Command}
 use Rattle.sd_config.specs.declared.command.Command.TheVariants as command
 use Rattle.sd_config.specs.declared.told.Told.TheVariants as told
-use Rattle.sd_claims.specs.Booting.{Counts, Call, ComesTo, to_whoami, to_getfile, to_getport, boot_fetch}
+use Rattle.sd_claims.specs.Booting.{Counts, boot_fetch}
+use Rattle.sd_claims.proofs.Began.{began_so}
 use Rattle.sd_claims.specs.Causes.{Cause, addr_ok, boot_unbuilt, wait_ok}
 use Rattle.sd_claims.specs.Laws.{AddressIsConfigured, ProgramIsConfigured, WasTold, AddressWasTold, WasFetched, ProgramWasFetched, WaitPassed, NoFaultIsCaused}
 
@@ -35,31 +35,10 @@ module _ (h : History) (n : Counts) where
         address = refl;
       }
 
-  -- the fetch comes before each of the calls
-  fetched_before : (program : List ℕ) (step : Stage) (caller : Caller) (call : Call) (part more : List Step) → ComesTo (IsSettledBy h) h.config n program step caller call part → WasFetched h n program (part ++ more)
-  fetched_before program _ _ _ _ more (to_whoami learned address fetch answered fetched) = record {
-    fetch = boot_fetch h.config n.boots learned;
-    before = address;
-    within = fetch;
-    after = more;
-    cut = append_assoc address fetch more;
-    fetched = fetched;
-    name = refl;
-    port = refl;
-  }
-  fetched_before program _ _ _ _ more (to_getfile caller call before last from client domain router to answered) = further program before last more (fetched_before program stage.Whoami caller call before (last ++ more) to)
-    where
-      further : (program : List ℕ) (xs ys zs : List Step) → WasFetched h n program (xs ++ (ys ++ zs)) → WasFetched h n program ((xs ++ ys) ++ zs)
-      further program xs ys zs w = record { fetch = w.fetch; before = w.before; within = w.within; after = w.after; cut = append_assoc xs ys zs ∙ w.cut; fetched = w.fetched; name = w.name; port = w.port }
-  fetched_before program _ _ _ _ more (to_getport caller call before last from server ip path to answered) = further program before last more (fetched_before program stage.Getfile caller call before (last ++ more) to)
-    where
-      further : (program : List ℕ) (xs ys zs : List Step) → WasFetched h n program (xs ++ (ys ++ zs)) → WasFetched h n program ((xs ++ ys) ++ zs)
-      further program xs ys zs w = record { fetch = w.fetch; before = w.before; within = w.within; after = w.after; cut = append_assoc xs ys zs ∙ w.cut; fetched = w.fetched; name = w.name; port = w.port }
-
   was_fetched : (step : Stage) (program : List ℕ) (part : List Step) → Cause (IsSettledBy h) h.config n command.Boot (told.BootUnbuilt step program) part → WasFetched h n program part
   was_fetched _ _ part (boot_unbuilt program port _ some came) =
-      let w = fetched_before program stage.Getport came.caller came.call came.before came.last came.to in
-      record { fetch = w.fetch; before = w.before; within = w.within; after = w.after; cut = came.cut ∙ w.cut; fetched = w.fetched; name = w.name; port = w.port }
+      let b = began_so (IsSettledBy h) h.config n program stage.Getport came.caller came.call part came.before came.last came.cut came.to in
+      record { fetch = boot_fetch h.config n.boots b.learned; before = b.address; within = b.fetch; after = b.rest; cut = b.cut; fetched = b.fetched; name = refl; port = refl }
 
   passed : (ticks shown : ℕ) (part : List Step) → Cause (IsSettledBy h) h.config n (command.Wait ticks) (told.WaitOk shown) part → (sends_in part ≡ []) × (ticks_in part ≡ shown)
   passed _ _ part (wait_ok ticks _ waited) = (waited.silent, waited.passed)

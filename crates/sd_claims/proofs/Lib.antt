@@ -1,4 +1,5 @@
 pub mod Counted
+pub mod Began
 mod Came
 mod OneOutcome
 mod OneAnswer
