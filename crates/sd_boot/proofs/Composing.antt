@@ -11,7 +11,7 @@ use Rattle.sd_config.specs.Config.{IsConfig, IsFor}
 use Rattle.sd_config.specs.Events.{Fates, fates_of}
 use Rattle.sd_link.specs.World.{World, start}
 use Rattle.sd_link.specs.Steps.{Step, Entry, History, AllAllowed, after, entries_of, world_of, whole_record}
-use Rattle.sd_link.specs.Lawful.{IsLawful, EndsAtRest, AllInTurn}
+use Rattle.sd_link.specs.Lawful.{IsLawful, EndsAtRest, AllInTurn, Settles}
 use Rattle.sd_link.specs.Printing.{record_text}
 use Rattle.sd_link.specs.Link.{GoesOn, Moves, IsAtRestBy, IsDrained, last_tick}
 use Rattle.sd_link.proofs.Histories.{world-goes, tick-run}
@@ -67,20 +67,24 @@ all_taken P zero xs all = tt
 all_taken P (suc count) [] all = tt
 all_taken P (suc count) (x ∷ xs) all = (all.0, all_taken P count xs all.1)
 
+-- what waits for the client, told of the steps since the start
+abbrev settled_of : Script → List Step → Type 0
+settled_of s steps = Settles s.config (fates_of s.events) (start s.config) [] steps
+
 -- what a session says of the server's rest, told of the script: at the start nothing is due
 rests_so : (s : Script) (done : List Done) → (done ≡ []) ⊎ IsAtRestBy (first_history s) (parts_of done) → EndsAtRest s.config (fates_of s.events) (parts_of done)
 rests_so s done (inl none) = subst (λ (d : List Done). EndsAtRest s.config (fates_of s.events) (parts_of d)) (sym none) (refl, refl)
 rests_so s done (inr rests) = rests
 
 -- commands that were done over a lawful history, each with its cause and ending as it says, are done as the script owes
-done_so : (s : Script) → IsConfig s.config → (commands : List Command) (done : List Done) → IsLawful s.config (fates_of s.events) (parts_of done) → EndsAtRest s.config (fates_of s.events) (parts_of done) → AllCaused s.config first_counts commands done
+done_so : (s : Script) → IsConfig s.config → (commands : List Command) (done : List Done) → IsLawful s.config (fates_of s.events) (parts_of done) → EndsAtRest s.config (fates_of s.events) (parts_of done) → AllCaused (settled_of s) s.config first_counts commands done
     → AllEnd s.config (fates_of s.events) (start s.config) [] done → (IsCalm s → AllByRecursion (λ command. command ≢ Boot) commands) → AreDone s commands done
 done_so s is commands done law rests caused ended others = record {
   lawful = law;
   rests = rests;
-  machine = answers_run s.config is commands done law.allowed caused;
+  machine = answers_run s.config is (settled_of s) commands done law.allowed caused;
   caused = caused;
-  complete = λ calm. complete s is commands done law caused ended (others calm) calm;
+  complete = λ calm. complete (settled_of s) s is commands done law caused ended (others calm) calm;
 }
 
 -- ---- the whole

@@ -11,7 +11,9 @@ use Rattle.sd_config.specs.Config.{IsFor}
 use Rattle.sd_link.specs.World.{World}
 use Rattle.sd_link.specs.Steps.{Step, Entry, History, world_of, whole_record, record_of, run}
 use Rattle.sd_link.specs.Printing.{record_text, entry_text}
-use Rattle.sd_link.specs.Link.{GoesOn, Moves, IsDrained, IsAtRest, IsAtRestBy}
+use Rattle.sd_link.specs.Link.{GoesOn, Moves, IsDrained, IsAtRest, IsAtRestBy, IsSettledBy}
+use Rattle.sd_link.specs.Tries.{beyond}
+use Rattle.sd_rpc_retry.proofs.Settling.{settled-beyond}
 use Rattle.sd_link.proofs.Histories.{record-append, record-goes, run-append, world-goes, rests-goes, rests-then, moves_weaker}
 use Rattle.sd_config.specs.declared.command.Command.{Command}
 use Rattle.sd_config.specs.declared.told.Told.{Told}
@@ -76,11 +78,20 @@ counts-push : (n : Counts) (done : List Done) (d : Done) → counts_done n (done
 counts-push n [] d = refl
 counts-push n (e ∷ es) d = counts-push (counts_after n e.answer) es d
 
-caused-push : (c : Config) (n : Counts) (commands : List Command) (command : Command) (done : List Done) (d : Done) → AllCaused c n commands done → IsCaused c (counts_done n done) command d.answer d.part → AllCaused c n (commands ++ command ∷ []) (done ++ d ∷ [])
-caused-push c n [] command [] d all one = (one, tt)
-caused-push c n [] command (e ∷ es) d all one = absurd all
-caused-push c n (k ∷ ks) command [] d all one = absurd all
-caused-push c n (k ∷ ks) command (e ∷ es) d all one = (all.0, caused-push c (counts_after n e.answer) ks command es d all.1 one)
+-- beyond one part and then another
+beyond-both : (settled : List Step → Type 0) (xs ys : List Step) → beyond settled (xs ++ ys) ≡ beyond (beyond settled xs) ys
+beyond-both settled xs ys = λ i steps. settled (append_assoc xs ys steps i)
+
+caused-push : (settled : List Step → Type 0) (c : Config) (n : Counts) (commands : List Command) (command : Command) (done : List Done) (d : Done) → AllCaused settled c n commands done
+    → IsCaused (beyond settled (parts_of done)) c (counts_done n done) command d.answer d.part → AllCaused settled c n (commands ++ command ∷ []) (done ++ d ∷ [])
+caused-push settled c n [] command [] d all one = (one, tt)
+caused-push settled c n [] command (e ∷ es) d all one = absurd all
+caused-push settled c n (k ∷ ks) command [] d all one = absurd all
+caused-push settled c n (k ∷ ks) command (e ∷ es) d all one = (
+  all.0,
+  caused-push (beyond settled e.part) c (counts_after n e.answer) ks command es d all.1
+      (subst (λ (still : List Step → Type 0). IsCaused still c (counts_done (counts_after n e.answer) es) command d.answer d.part) (beyond-both settled e.part (parts_of es)) one),
+)
 
 -- one command's text
 abbrev pub text_of : Config → World → Done → List ℕ
@@ -160,11 +171,13 @@ module _ (client : ClientView) (commands : List Command) (command : Command) (be
       ∙ ap (λ (c : Config). text_of c (world_of b) last) goes.config
       ∙ ap (λ (w : World). text_of a.config w last) (world-goes a b xs goes ∙ ap (λ (l : List Step). run a.config (world_of a) l) s.session.cut)
 
-  caused : AllCaused a.config first_counts (commands ++ command ∷ []) (s.session.done ++ last ∷ [])
+  caused : AllCaused (IsSettledBy a) a.config first_counts (commands ++ command ∷ []) (s.session.done ++ last ∷ [])
   unfolding last
   caused =
-      caused-push a.config first_counts commands command s.session.done last s.session.caused
-      (subst (λ (c : Config). IsCaused c (counts_done first_counts s.session.done) command t.answer ys) goes.config answered.0.caused)
+      caused-push (IsSettledBy a) a.config first_counts commands command s.session.done last s.session.caused
+      (subst (λ (l : List Step). IsCaused (beyond (IsSettledBy a) l) a.config (counts_done first_counts s.session.done) command t.answer ys) s.session.cut
+      (subst (λ (still : List Step → Type 0). IsCaused still a.config (counts_done first_counts s.session.done) command t.answer ys) (settled-beyond a b xs goes)
+      (subst (λ (c : Config). IsCaused (IsSettledBy b) c (counts_done first_counts s.session.done) command t.answer ys) goes.config answered.0.caused)))
 
   ended : AllEnd a.config (fates_of a.events) (world_of a) (whole_record a) (s.session.done ++ last ∷ [])
   unfolding last
@@ -203,7 +216,7 @@ module _ (client : ClientView) (commands : List Command) (command : Command) (be
     done = s.session.done ++ last ∷ [];
     more = [];
     cut = cut ∙ sym (append-nil (parts_of (s.session.done ++ last ∷ [])));
-    caused = subst (λ (l : List Command). AllCaused a.config first_counts l (s.session.done ++ last ∷ [])) (sym more) caused;
+    caused = subst (λ (l : List Command). AllCaused (IsSettledBy a) a.config first_counts l (s.session.done ++ last ∷ [])) (sym more) caused;
     ended = ended;
     rests = rested;
     front = so_far ++ gained.0;

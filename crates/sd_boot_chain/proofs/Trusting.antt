@@ -18,7 +18,7 @@ gives f (came.TooLarge got) old part clean allowed h = tt
 gives f came.Fault old part clean allowed h = tt
 
 -- Over a link that tells, what came of a fetch is the configured file, where its server may be trusted.
-pub gives_file : (f : Fetch) (what : outcomes.Fetched) (old new : Option History) → HasNoZero f.name → Moves old new (λ h part. CameOf f what part) → Moves old new (GivesFile f what)
+pub gives_file : (f : Fetch) (what : outcomes.Fetched) (old new : Option History) → HasNoZero f.name → Moves old new (CameOf f what) → Moves old new (GivesFile f what)
 gives_file f what None None clean m = tt
 gives_file f what None (Some new) clean m = absurd m
 gives_file f what (Some old) None clean m = absurd m
