@@ -9,7 +9,7 @@ use Rattle.sd_boot_chain.specs.declared.fetch.Fetched.TheVariants as came
 use Rattle.sd_boot_chain.specs.Fetch.{CameOf, GivesFile}
 use Rattle.sd_boot_chain.proofs.TrustedFile.{fetched_is_configured}
 
-gives : (f : Fetch) (what : outcomes.Fetched) (old : History) (part : List Step) → HasNoZero f.name → AllAllowed old.config (world_of old) part → CameOf f what part → GivesFile f what old part
+gives : (f : Fetch) (what : outcomes.Fetched) (old : History) (part : List Step) → HasNoZero f.name → AllAllowed old.config (world_of old) part → CameOf f what old part → GivesFile f what old part
 gives f (came.File bytes) old part clean allowed h = λ trust. fetched_is_configured old.config trust.rules old.steps part f bytes clean trust.asks trust.keeps_off allowed h
 gives f came.Timeout old part clean allowed h = tt
 gives f came.Flood old part clean allowed h = tt
