@@ -4,21 +4,21 @@ use Rattle.std.proofs.lemmas.List.{append-nil}
 use Rattle.std.specs.Prelude.{◌≢◌}
 use Rattle.std.specs.List.{flat_map, AllByRecursion}
 use Rattle.sd_outside.specs.declared.packet.Packet.{Packet}
-use Rattle.sd_link.specs.declared.config.Config.{Config}
-use Rattle.sd_link.specs.declared.events.Fate.{Fate}
-use Rattle.sd_link.specs.declared.link.Stage.TheVariants as stage
-use Rattle.sd_link.specs.Config.{IsConfig}
-use Rattle.sd_link.specs.Events.{Fates, fates_of, fate_in}
+use Rattle.sd_config.specs.declared.config.Config.{Config}
+use Rattle.sd_config.specs.declared.events.Fate.{Fate}
+use Rattle.sd_config.specs.declared.stage.Stage.TheVariants as stage
+use Rattle.sd_config.specs.Config.{IsConfig}
+use Rattle.sd_config.specs.Events.{Fates, fates_of, fate_in}
 use Rattle.sd_link.specs.World.{World, start}
 use Rattle.sd_link.specs.Steps.{Step, Send, Get, Entry, Sent, Served, Got, after, entries_of, run, record_of, AllAllowed, goes_to_client}
 use Rattle.sd_link.specs.Parts.{sends_in, got_in, ticks_in}
 use Rattle.sd_link.specs.Lawful.{IsLawful, AllInTurn, InTurn, AllGot, Settles, SendsSettled, IsFrontOf, got_at, due_to_client}
 use Rattle.sd_link.proofs.Histories.{run-append, allowed-split, record-append, sends-append, got-append, ticks-append}
 use Rattle.sd_script.specs.declared.script.Script.{Script}
-use Rattle.sd_script.specs.declared.script.Command.{Command}
-use Rattle.sd_script.specs.declared.script.Command.TheVariants.{Addr, Boot, Wait}
-use Rattle.sd_script.specs.declared.told.Told.{Told}
-use Rattle.sd_script.specs.declared.told.Told.TheVariants.{AddrOk, AddrTimeout, AddrFlood, AddrLinkFault, BootUnbuilt, BootTimeout, BootFlood, BootDenied, BootRefused, BootNoPort, BootTooLarge, BootLinkFault, WaitOk, WaitFlood, WaitLinkFault}
+use Rattle.sd_config.specs.declared.command.Command.{Command}
+use Rattle.sd_config.specs.declared.command.Command.TheVariants.{Addr, Boot, Wait}
+use Rattle.sd_config.specs.declared.told.Told.{Told}
+use Rattle.sd_config.specs.declared.told.Told.TheVariants.{AddrOk, AddrTimeout, AddrFlood, AddrLinkFault, BootUnbuilt, BootTimeout, BootFlood, BootDenied, BootRefused, BootNoPort, BootTooLarge, BootLinkFault, WaitOk, WaitFlood, WaitLinkFault}
 use Rattle.sd_link.specs.Tries.{AreUnmatched}
 use Rattle.sd_claims.specs.Rarp.{Learned, rarp_hearing, learned_from}
 use Rattle.sd_claims.specs.Booting.{Counts, first_counts}

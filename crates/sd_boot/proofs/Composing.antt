@@ -4,19 +4,19 @@ use Rattle.std.proofs.Common.{◌≡◌, ℕ, zero, suc, ◌<◌, List, [], ◌�
 use Rattle.std.specs.Prelude.{◌⊎◌, ◌≢◌}
 use Rattle.sd_outside.specs.Causes.{Rose}
 use Rattle.sd_outside.specs.Streams.{Gains}
-use Rattle.sd_link.specs.declared.config.Config.{Config}
-use Rattle.sd_link.specs.declared.config.ClientConfig.{ClientConfig}
-use Rattle.sd_link.specs.declared.events.Events.{Events}
-use Rattle.sd_link.specs.Config.{IsConfig, IsFor}
-use Rattle.sd_link.specs.Events.{Fates, fates_of}
+use Rattle.sd_config.specs.declared.config.Config.{Config}
+use Rattle.sd_config.specs.declared.config.ClientConfig.{ClientConfig}
+use Rattle.sd_config.specs.declared.events.Events.{Events}
+use Rattle.sd_config.specs.Config.{IsConfig, IsFor}
+use Rattle.sd_config.specs.Events.{Fates, fates_of}
 use Rattle.sd_link.specs.World.{World, start}
 use Rattle.sd_link.specs.Steps.{Step, Entry, History, AllAllowed, after, entries_of, world_of}
 use Rattle.sd_link.specs.Lawful.{IsLawful, AllInTurn}
 use Rattle.sd_link.specs.Link.{GoesOn, Moves, last_tick}
 use Rattle.sd_link.proofs.Histories.{world-goes, tick-run}
 use Rattle.sd_script.specs.declared.script.Script.{Script}
-use Rattle.sd_script.specs.declared.script.Command.{Command}
-use Rattle.sd_script.specs.declared.script.Command.TheVariants.{Boot}
+use Rattle.sd_config.specs.declared.command.Command.{Command}
+use Rattle.sd_config.specs.declared.command.Command.TheVariants.{Boot}
 use Rattle.sd_claims.specs.Booting.{first_counts}
 use Rattle.sd_claims.specs.Transcript.{Done, AllCaused}
 use Rattle.sd_claims.specs.Ending.{AllEnd}

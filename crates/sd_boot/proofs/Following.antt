@@ -15,12 +15,13 @@ use Rattle.sd_rarp.specs.declared.frame.RarpError.{RarpError}
 use Rattle.sd_rarp.specs.Frame.{frame_bytes, fixed_part}
 use Rattle.sd_rarp.specs.Answer.{is_mac, reply_with}
 use Rattle.sd_rarp.proofs.RoundTrip.{reading-reply, reading-request}
-use Rattle.sd_link.specs.declared.config.Config.{Config}
-use Rattle.sd_link.specs.Config.{IsConfig}
-use Rattle.sd_link.specs.Events.{Fates, fate_in}
-use Rattle.sd_link.specs.World.{World, Session, ServerPart, Flying, Sender, Client, Server, start, sent_by}
-use Rattle.sd_link.specs.Sessions.{session_in}
-use Rattle.sd_link.specs.Reply.{rarp_answer, as_frame, out_of, next_of}
+use Rattle.sd_config.specs.declared.config.Config.{Config}
+use Rattle.sd_config.specs.Config.{IsConfig}
+use Rattle.sd_config.specs.Events.{Fates, fate_in}
+use Rattle.sd_link.specs.World.{World, Flying, Sender, Client, Server, start, sent_by}
+use Rattle.sd_services.specs.Part.{Session, ServerPart}
+use Rattle.sd_services.specs.Sessions.{session_in}
+use Rattle.sd_services.specs.Reply.{rarp_answer, as_frame, out_of, next_of}
 use Rattle.sd_link.specs.Steps.{Step, Tick, Send, Serve, Data, End, Get, Entry, Sent, Served, Got, after, served, replies_to, sent_from, entries_of, run, record_of, Allowed, AllAllowed, goes_to_server, goes_to_client, reaches_server, reaches_client}
 use Rattle.sd_link.specs.Parts.{sends_in, got_in}
 use Rattle.sd_link.specs.Lawful.{InTurn, AllInTurn, AllGot, SendsSettled, IsFrontOf, served_at, got_at, due, due_to_server, due_to_client, copies_at}

@@ -4,19 +4,19 @@ use Rattle.std.proofs.lemmas.List.{append-nil}
 use Rattle.std.specs.List.{AllByRecursion}
 use Rattle.sd_outside.specs.declared.packet.Addr as declared
 use Rattle.sd_tftp.specs.Grammar.{HasNoZero}
-use Rattle.sd_link.specs.declared.config.Config.{Config}
-use Rattle.sd_link.specs.declared.link.Stage.TheVariants as stage
-use Rattle.sd_link.specs.Config.{IsConfig}
-use Rattle.sd_link.specs.Program.{program_name, program_of, boot_file}
+use Rattle.sd_config.specs.declared.config.Config.{Config}
+use Rattle.sd_config.specs.declared.stage.Stage.TheVariants as stage
+use Rattle.sd_config.specs.Config.{IsConfig}
+use Rattle.sd_config.specs.Program.{program_name, program_of, boot_file}
 use Rattle.sd_link.specs.World.{World, start}
 use Rattle.sd_link.specs.Steps.{Step, run, AllAllowed}
 use Rattle.sd_link.specs.Parts.{got_in}
 use Rattle.sd_link.specs.Requests.{AsksOnlyFor, KeepsOffRpc}
 use Rattle.sd_link.proofs.Histories.{run-append, allowed-split}
-use Rattle.sd_script.specs.declared.script.Command.{Command}
-use Rattle.sd_script.specs.declared.script.Command.TheVariants.{Addr, Boot, Wait}
-use Rattle.sd_script.specs.declared.told.Told.{Told}
-use Rattle.sd_script.specs.declared.told.Told.TheVariants.{AddrOk, AddrTimeout, AddrFlood, AddrLinkFault, BootUnbuilt, BootTimeout, BootFlood, BootDenied, BootRefused, BootNoPort, BootTooLarge, BootLinkFault, WaitOk, WaitFlood, WaitLinkFault}
+use Rattle.sd_config.specs.declared.command.Command.{Command}
+use Rattle.sd_config.specs.declared.command.Command.TheVariants.{Addr, Boot, Wait}
+use Rattle.sd_config.specs.declared.told.Told.{Told}
+use Rattle.sd_config.specs.declared.told.Told.TheVariants.{AddrOk, AddrTimeout, AddrFlood, AddrLinkFault, BootUnbuilt, BootTimeout, BootFlood, BootDenied, BootRefused, BootNoPort, BootTooLarge, BootLinkFault, WaitOk, WaitFlood, WaitLinkFault}
 use Rattle.sd_claims.specs.Booting.{Counts, first_counts, AfterProgram, AfterCall, TellsPort, boot_fetch, fetch_port}
 use Rattle.sd_claims.specs.Causes.{IsCaused, IsAddrCaused, IsBootCaused, IsWaitCaused, counts_after}
 use Rattle.sd_claims.specs.Machine.{State, first_state, IsAddrAnswer, IsBootAnswer, IsWaitAnswer, Answers, IsRun}

@@ -2,7 +2,7 @@
 use Rattle.std.proofs.Common.{◌≡◌, ℕ, zero, suc, ◌<◌, ◌≤◌, List, [], ◌∷◌, ◌++◌, length, get_or, Option, Some, Result, Ok, Err, refl, sym, ◌∙◌, ap, subst, arith, inl, inr}
 use Rattle.std.specs.Prelude.{IfOk, IfSome, IsOk, IsErrOf}
 use Rattle.std.specs.Result.{result_ok}
-use Rattle.sd_link.specs.declared.config.SwapLine.{SwapLine}
+use Rattle.sd_config.specs.declared.config.SwapLine.{SwapLine}
 use Rattle.sd_link.specs.Lawful.{IsFrontOf}
 use Rattle.sd_script.specs.Limits.{input_limit}
 use Rattle.sd_boot_chain.specs.Writing.{GainsFront}

@@ -1,7 +1,7 @@
 -- What `image make` and `image show` write: the image of a script's swap file, and the files that an image holds.
 use Rattle.std.specs.Prelude.{◌≡◌, ◌⊎◌, ℕ, ◌+◌, List, [], ◌∷◌, ◌++◌, length, map, codes, Option, Some, None, IfSome, Result, Ok, Err}
 use Rattle.std.specs.Fmt.{decimal}
-use Rattle.sd_link.specs.declared.config.SwapLine.{SwapLine}
+use Rattle.sd_config.specs.declared.config.SwapLine.{SwapLine}
 use Rattle.sd_link.specs.Lawful.{IsFrontOf}
 use Rattle.sd_text.specs.Runs.{runs_text}
 use Rattle.sd_stable_disk.specs.Image.{opens, holds, new_image, zero_files}

@@ -2,7 +2,7 @@
 ghost use Rattle.std.specs.Prelude.{◌≡◌, ◌≢◌, OnOk, IfOk, IfSome, IsErrOf, Some, []};
 ghost use Rattle.sd_outside.specs.Causes.{Rose};
 ghost use Rattle.sd_claims.specs.Headline.{Writes};
-ghost use Rattle.sd_link.specs.Config.{IsSwap};
+ghost use Rattle.sd_config.specs.Config.{IsSwap};
 ghost use Rattle.sd_boot.specs.Images.{Answers, EndsSo, IsNewImage, IsRefusalLine};
 ghost use Rattle.sd_boot.specs.Play.{GainsSome};
 
@@ -10,7 +10,7 @@ use crate::held_files::files_text;
 use crate::input::read_all;
 use crate::output::{refusal_line, write};
 use crate::status::{Ended, Stop};
-use sd_link::SwapLine;
+use sd_config::SwapLine;
 use sd_outside::{ByteList, CalmDisk, NoMemory, Sink, Source};
 use sd_script::{ScriptError, push_number, read_script};
 use sd_stable_disk::{OpenError, Store, image_of};

@@ -1,13 +1,13 @@
 -- What came of asking for one's own address.
 use Rattle.std.proofs.Common.{ℕ, List, refl, subst}
 use Rattle.sd_outside.specs.declared.packet.Mac.{Mac}
-use Rattle.sd_link.specs.declared.config.Config.{Config}
-use Rattle.sd_link.specs.declared.config.ClientConfig.{ClientConfig}
-use Rattle.sd_link.specs.declared.link.Stage.TheVariants as stage
-use Rattle.sd_link.specs.Config.{IsFor}
+use Rattle.sd_config.specs.declared.config.Config.{Config}
+use Rattle.sd_config.specs.declared.config.ClientConfig.{ClientConfig}
+use Rattle.sd_config.specs.declared.stage.Stage.TheVariants as stage
+use Rattle.sd_config.specs.Config.{IsFor}
 use Rattle.sd_link.specs.Steps.{Step, History}
 use Rattle.sd_link.specs.Tries.{Answered, Flooded, TimedOut}
-use Rattle.sd_script.specs.declared.told.Told.TheVariants.{AddrOk, AddrTimeout, AddrFlood}
+use Rattle.sd_config.specs.declared.told.Told.TheVariants.{AddrOk, AddrTimeout, AddrFlood}
 use Rattle.sd_claims.specs.Rarp.{rarp_request, rarp_hearing}
 use Rattle.sd_claims.specs.Causes.{TellsAddress, AddressTimedOut, AddressFlooded}
 use Rattle.sd_claims.specs.Ending.{EndsAfter}

@@ -1,21 +1,21 @@
 -- What a boot was answered, and what came before.
 use Rattle.std.proofs.Common.{◌≡◌, ℕ, ◌+◌, ◌%◌, ◌<◌, ◌==◌, Bool, true, false, cond, List, [], ◌++◌, Option, Result, Ok, Err, refl, sym, ◌∙◌, ap, subst, arith, add-zero}
 use Rattle.sd_outside.specs.declared.packet.Addr.{Addr}
-use Rattle.sd_link.specs.declared.config.Config.{Config}
-use Rattle.sd_link.specs.declared.link.Stage.{Stage}
-use Rattle.sd_link.specs.declared.link.Stage.TheVariants as stage
+use Rattle.sd_config.specs.declared.config.Config.{Config}
+use Rattle.sd_config.specs.declared.stage.Stage.{Stage}
+use Rattle.sd_config.specs.declared.stage.Stage.TheVariants as stage
 use Rattle.sd_outside.specs.declared.errors.NoMemory.{NoMemory}
-use Rattle.sd_link.specs.Config.{IsFor}
-use Rattle.sd_link.specs.Program.{program_name}
+use Rattle.sd_config.specs.Config.{IsFor}
+use Rattle.sd_config.specs.Program.{program_name}
 use Rattle.sd_link.specs.Steps.{Step, History}
 use Rattle.std.specs.Prelude.{IfOk}
 use Rattle.sd_link.specs.Link.{Moves}
 use Rattle.sd_link.proofs.Histories.{moves_then}
 use Rattle.sd_link.specs.Tries.{Answered}
-use Rattle.sd_script.specs.declared.script.Command.TheVariants.{Boot}
-use Rattle.sd_script.specs.declared.script.Command.TheVariants as commands
-use Rattle.sd_script.specs.declared.told.Told.{Told}
-use Rattle.sd_script.specs.declared.told.Told.TheVariants.{AddrOk, AddrTimeout, AddrFlood, AddrLinkFault, BootUnbuilt, BootTimeout, BootFlood, BootDenied, BootRefused, BootNoPort, BootTooLarge, BootLinkFault, WaitOk, WaitFlood, WaitLinkFault}
+use Rattle.sd_config.specs.declared.command.Command.TheVariants.{Boot}
+use Rattle.sd_config.specs.declared.command.Command.TheVariants as commands
+use Rattle.sd_config.specs.declared.told.Told.{Told}
+use Rattle.sd_config.specs.declared.told.Told.TheVariants.{AddrOk, AddrTimeout, AddrFlood, AddrLinkFault, BootUnbuilt, BootTimeout, BootFlood, BootDenied, BootRefused, BootNoPort, BootTooLarge, BootLinkFault, WaitOk, WaitFlood, WaitLinkFault}
 use Rattle.sd_claims.specs.Rarp.{Learned, rarp_request, rarp_hearing}
 use Rattle.sd_claims.specs.Fetching.{Fetch, Fetched}
 use Rattle.sd_claims.specs.Booting.{Counts, Call, CallTold, CallDenied, CallTimedOut, CallFlooded, TellsPort, TellsNoPort, AfterAddress, AfterCall, AfterFetch, AfterProgram, AfterSomeProgram, boot_fetch, caller_after, whoami_call}

@@ -8,20 +8,21 @@ use Rattle.sd_rarp.specs.Answer.{is_mac}
 use Rattle.sd_tftp.specs.declared.packet.TftpPacket.TheVariants.{Rrq}
 use Rattle.sd_tftp.specs.Grammar.{HasNoZero}
 use Rattle.sd_tftp.specs.Reading.{reading}
-use Rattle.sd_link.specs.declared.config.Config.{Config}
-use Rattle.sd_link.specs.Config.{IsConfig}
-use Rattle.sd_link.specs.Program.{program_name}
-use Rattle.sd_link.specs.RpcReply.{program_at}
+use Rattle.sd_config.specs.declared.config.Config.{Config}
+use Rattle.sd_config.specs.Config.{IsConfig}
+use Rattle.sd_config.specs.Program.{program_name}
+use Rattle.sd_services.specs.RpcReply.{program_at}
 use Rattle.sd_link.specs.World.{World, Sender, Client, Server, start}
 use Rattle.sd_link.specs.Steps.{Step, Get, run, AllAllowed}
 use Rattle.sd_link.specs.Parts.{sends_in, got_in}
 use Rattle.sd_link.specs.Requests.{AsksOnlyFor, IsRpcPort, KeepsOffRpc}
 use Rattle.sd_link.specs.Tries.{Answered}
-use Rattle.sd_link.proofs.InFlight.{all_always, all_at, all_weaker, IsTftpPort, SentFine, FlyingFine, Keeps}
-use Rattle.sd_link.proofs.NoRequests.{ack_asks_not, error_asks_not}
+use Rattle.sd_link.proofs.InFlight.{IsTftpPort, SentFine, FlyingFine, Keeps}
+use Rattle.sd_config.proofs.Lists.{all_always, all_at, all_weaker}
+use Rattle.sd_services.proofs.NoRequests.{ack_asks_not, error_asks_not}
 use Rattle.sd_link.proofs.FromServer.{AnyPacket, AnySession}
-use Rattle.sd_script.specs.declared.script.Command.{Command}
-use Rattle.sd_script.specs.declared.told.Told.{Told}
+use Rattle.sd_config.specs.declared.command.Command.{Command}
+use Rattle.sd_config.specs.declared.told.Told.{Told}
 use Rattle.sd_claims.specs.Rarp.{Learned, rarp_request, rarp_hearing, learned_in, learned_from}
 use Rattle.sd_claims.specs.Booting.{Counts, boot_fetch}
 use Rattle.sd_claims.specs.Causes.{IsCaused}

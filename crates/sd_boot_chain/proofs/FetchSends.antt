@@ -17,7 +17,7 @@ use Rattle.sd_link.specs.Steps.{Step, Send}
 use Rattle.sd_link.specs.Parts.{sends_in, got_in}
 use Rattle.sd_link.specs.Tries.{IsTries}
 use Rattle.sd_link.proofs.Histories.{sends-append}
-use Rattle.sd_link.proofs.InFlight.{all_append}
+use Rattle.sd_config.proofs.Lists.{all_append}
 use Rattle.sd_claims.specs.Fetching.{Fetch, Takes, takes_none, takes_block, Fetched, Stops, read_request, acknowledge, turn_away, asked_by, request_of, turn_by, turn_on, courtesy, fetch_hearing}
 use Rattle.std.proofs.lemmas.Bool.{eqb-true}
 use Rattle.sd_boot_chain.proofs.Turned.{and_first, and_second}

@@ -11,12 +11,12 @@ use Rattle.sd_tftp.specs.Blocks.{block_at, AreBlocksOf, EndsShort}
 use Rattle.sd_tftp.specs.Reception.{Reception}
 use Rattle.sd_tftp.specs.ReceiverTurn.{Turn}
 use Rattle.sd_tftp.proofs.Pieces.{blocks_are_the_file, one_more_block}
-use Rattle.sd_link.specs.declared.config.Config.{Config}
-use Rattle.sd_link.specs.Program.{boot_file}
+use Rattle.sd_config.specs.declared.config.Config.{Config}
+use Rattle.sd_config.specs.Program.{boot_file}
 use Rattle.sd_link.specs.Steps.{Step, Send, Get}
 use Rattle.sd_link.specs.Parts.{got_in}
 use Rattle.sd_link.proofs.Histories.{got-append}
-use Rattle.sd_link.proofs.InFlight.{all_split}
+use Rattle.sd_config.proofs.Lists.{all_split}
 use Rattle.sd_link.proofs.BlocksInFlight.{Carries, IsBlockOf}
 use Rattle.sd_claims.specs.Fetching.{Fetch, Brings, Takes, takes_none, takes_block, Fetched, acknowledge}
 use Rattle.sd_boot_chain.proofs.Turned.{Turned, turned, TookBlock, took_block}

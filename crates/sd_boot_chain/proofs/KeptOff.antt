@@ -7,15 +7,16 @@ use Rattle.sd_outside.specs.declared.packet.Packet.{Packet}
 use Rattle.sd_outside.specs.declared.packet.Packet.TheVariants.{Frame, Udp}
 use Rattle.sd_tftp.specs.declared.packet.TftpPacket.TheVariants.{Ack, Error}
 use Rattle.sd_tftp.specs.Grammar.{word, packet_bytes}
-use Rattle.sd_link.specs.declared.config.Config.{Config}
-use Rattle.sd_link.specs.Config.{IsConfig}
-use Rattle.sd_link.specs.RpcCalls.{reply_to}
-use Rattle.sd_link.specs.RpcReply.{is_rpc_port, program_at}
+use Rattle.sd_config.specs.declared.config.Config.{Config}
+use Rattle.sd_config.specs.Config.{IsConfig}
+use Rattle.sd_services.specs.RpcCalls.{reply_to}
+use Rattle.sd_services.specs.RpcReply.{is_rpc_port, program_at}
 use Rattle.sd_link.specs.World.{World, Sender, Client, Server, Flying, start}
 use Rattle.sd_link.specs.Steps.{Step, Tick, Send, Serve, Data, End, Get, after, run, AllAllowed, goes_to_client}
 use Rattle.sd_link.specs.Parts.{sends_in, got_in}
 use Rattle.sd_link.specs.Requests.{IsRpcPort, KeepsOffRpc}
-use Rattle.sd_link.proofs.InFlight.{all_always, all_at, all_weaker, keeps_run, AllAsk, IsTftpPort, SentFine, FlyingFine, Keeps}
+use Rattle.sd_link.proofs.InFlight.{keeps_run, AllAsk, IsTftpPort, SentFine, FlyingFine, Keeps}
+use Rattle.sd_config.proofs.Lists.{all_always, all_at, all_weaker}
 use Rattle.sd_link.proofs.FromServer.{AnyPacket, AnySession, AnyRequest}
 use Rattle.sd_claims.specs.Fetching.{Fetch, Fetched, acknowledge}
 use Rattle.std.proofs.lemmas.Bool.{eqb-true}

@@ -6,21 +6,21 @@ use Rattle.sd_outside.specs.declared.packet.Packet.{Packet}
 use Rattle.sd_outside.specs.declared.packet.Packet.TheVariants.{Frame}
 use Rattle.sd_tftp.specs.ReceiverTurn.{Turn}
 use Rattle.sd_tftp.specs.declared.step.Step.TheVariants as step
-use Rattle.sd_link.specs.declared.config.Config.{Config}
-use Rattle.sd_link.specs.declared.link.Stage.TheVariants as stage
+use Rattle.sd_config.specs.declared.config.Config.{Config}
+use Rattle.sd_config.specs.declared.stage.Stage.TheVariants as stage
 use Rattle.sd_link.specs.Steps.{Step}
 use Rattle.sd_link.specs.Parts.{sends_in, got_in}
 use Rattle.sd_link.specs.Tries.{Answered, Flooded, TimedOut, IsTries}
 use Rattle.sd_link.proofs.Histories.{sends-append}
-use Rattle.sd_link.proofs.InFlight.{all_append, all_always}
+use Rattle.sd_config.proofs.Lists.{all_append, all_always}
 use Rattle.sd_link.proofs.FromServer.{AnyPacket}
 use Rattle.sd_rpc_retry.specs.declared.calling.Caller.{Caller}
 use Rattle.sd_rpc_retry.specs.Calling.{Verdict, request, hearing_of}
-use Rattle.sd_script.specs.declared.script.Command.{Command}
-use Rattle.sd_script.specs.declared.script.Command.TheVariants.{Boot, Wait}
-use Rattle.sd_script.specs.declared.script.Command.TheVariants as command
-use Rattle.sd_script.specs.declared.told.Told.{Told}
-use Rattle.sd_script.specs.declared.told.Told.TheVariants.{AddrOk, AddrTimeout, AddrFlood, AddrLinkFault, BootUnbuilt, BootTimeout, BootFlood, BootDenied, BootRefused, BootNoPort, BootTooLarge, BootLinkFault, WaitOk, WaitFlood, WaitLinkFault}
+use Rattle.sd_config.specs.declared.command.Command.{Command}
+use Rattle.sd_config.specs.declared.command.Command.TheVariants.{Boot, Wait}
+use Rattle.sd_config.specs.declared.command.Command.TheVariants as command
+use Rattle.sd_config.specs.declared.told.Told.{Told}
+use Rattle.sd_config.specs.declared.told.Told.TheVariants.{AddrOk, AddrTimeout, AddrFlood, AddrLinkFault, BootUnbuilt, BootTimeout, BootFlood, BootDenied, BootRefused, BootNoPort, BootTooLarge, BootLinkFault, WaitOk, WaitFlood, WaitLinkFault}
 use Rattle.sd_claims.specs.Rarp.{Learned, rarp_request, rarp_hearing}
 use Rattle.sd_claims.specs.Fetching.{Fetch, Brings, FetchTimedOut, FetchFlooded, FetchRefused, FetchTooLarge, request_of, fetch_hearing}
 use Rattle.sd_claims.specs.Booting.{Counts, Call, AfterAddress, AfterFetch, AfterCall, AfterSomeProgram, CallTold, CallDenied, CallTimedOut, CallFlooded, TellsPort, TellsNoPort, boot_fetch, caller_after, after_call, whoami_call}

@@ -8,17 +8,17 @@ use Rattle.sd_outside.specs.declared.packet.Packet.TheVariants.{Frame, Udp}
 use Rattle.sd_xdr.specs.Reading.{reading, word_reading}
 use Rattle.sd_rarp.specs.declared.frame.RarpFrame.{RarpFrame}
 use Rattle.sd_rpc_msg.specs.declared.message.Reply.{Reply}
-use Rattle.sd_link.specs.declared.config.Config.{Config}
-use Rattle.sd_link.specs.Config.{IsConfig}
-use Rattle.sd_link.specs.RpcCalls.{Program, reply_to}
-use Rattle.sd_link.specs.RpcReply.{is_rpc_port, program_at, rpc_packet, as_packets, rpc_out}
+use Rattle.sd_config.specs.declared.config.Config.{Config}
+use Rattle.sd_config.specs.Config.{IsConfig}
+use Rattle.sd_services.specs.RpcCalls.{Program, reply_to}
+use Rattle.sd_services.specs.RpcReply.{is_rpc_port, program_at, rpc_packet, as_packets, rpc_out}
 use Rattle.sd_rarp.specs.Frame as rarp
-use Rattle.sd_link.specs.Reply.{rarp_answer, as_frame}
+use Rattle.sd_services.specs.Reply.{rarp_answer, as_frame}
 use Rattle.sd_link.specs.World.{World, Sender, Client, Server}
 use Rattle.sd_link.specs.Steps.{Step, run, AllAllowed}
 use Rattle.sd_link.specs.Parts.{sends_in, got_in}
 use Rattle.sd_link.specs.Requests.{IsRpcPort}
-use Rattle.sd_link.proofs.RpcSilence.{rpc_port_is}
+use Rattle.sd_services.proofs.RpcSilence.{rpc_port_is}
 use Rattle.sd_link.proofs.InFlight.{IsTftpPort, Rules, Asks, SentFine, Keeps, told_run, told_got}
 use Rattle.sd_link.proofs.FromServer.{AnySession, AnyRequest, IsServers, server_rules}
 

@@ -2,8 +2,8 @@
 use Rattle.std.proofs.Common.{◌≡◌, ℕ, List, Option, Some, Result, Ok, Err, refl, sym, subst}
 use Rattle.std.specs.Prelude.{IfOk}
 use Rattle.sd_outside.specs.declared.packet.Addr.{Addr}
-use Rattle.sd_link.specs.declared.link.Stage.{Stage}
-use Rattle.sd_link.specs.declared.link.Stage.TheVariants as stage
+use Rattle.sd_config.specs.declared.stage.Stage.{Stage}
+use Rattle.sd_config.specs.declared.stage.Stage.TheVariants as stage
 use Rattle.sd_link.specs.Steps.{Step, History}
 use Rattle.sd_link.specs.Link.{Moves}
 use Rattle.sd_link.proofs.Histories.{moves_weaker, moves_then}

@@ -4,17 +4,17 @@ use Rattle.std.specs.Prelude.{IfSome}
 use Rattle.std.proofs.lemmas.Grind.{flat_map-append}
 use Rattle.std.proofs.lemmas.List.{append-nil, append_cancel_left}
 use Rattle.sd_outside.specs.Streams.{Gains}
-use Rattle.sd_link.specs.declared.config.Config.{Config}
-use Rattle.sd_link.specs.declared.events.Events.{Events}
-use Rattle.sd_link.specs.Events.{Fates, fates_of}
-use Rattle.sd_link.specs.Config.{IsFor}
+use Rattle.sd_config.specs.declared.config.Config.{Config}
+use Rattle.sd_config.specs.declared.events.Events.{Events}
+use Rattle.sd_config.specs.Events.{Fates, fates_of}
+use Rattle.sd_config.specs.Config.{IsFor}
 use Rattle.sd_link.specs.World.{World}
 use Rattle.sd_link.specs.Steps.{Step, Entry, History, world_of, whole_record, record_of, run}
 use Rattle.sd_link.specs.Printing.{record_text, entry_text}
 use Rattle.sd_link.specs.Link.{GoesOn, Moves}
 use Rattle.sd_link.proofs.Histories.{record-append, record-goes, run-append, world-goes, moves_weaker}
-use Rattle.sd_script.specs.declared.script.Command.{Command}
-use Rattle.sd_script.specs.declared.told.Told.{Told}
+use Rattle.sd_config.specs.declared.command.Command.{Command}
+use Rattle.sd_config.specs.declared.told.Told.{Told}
 use Rattle.sd_script.specs.Answers.{answer_line}
 use Rattle.sd_claims.specs.Causes.{IsCaused, counts_after}
 use Rattle.sd_claims.specs.Booting.{Counts, first_counts}

@@ -9,15 +9,15 @@ use Rattle.sd_tftp.specs.declared.packet.TftpError.{TftpError}
 use Rattle.sd_tftp.specs.Grammar.{HasNoZero, packet_bytes, spells_rrq}
 use Rattle.sd_tftp.specs.Reading.{reading}
 use Rattle.sd_tftp.proofs.Whole.{spelled_is_read}
-use Rattle.sd_link.specs.declared.config.Config.{Config}
-use Rattle.sd_link.specs.Config.{IsConfig}
-use Rattle.sd_link.specs.Program.{boot_file}
+use Rattle.sd_config.specs.declared.config.Config.{Config}
+use Rattle.sd_config.specs.Config.{IsConfig}
+use Rattle.sd_config.specs.Program.{boot_file}
 use Rattle.sd_link.specs.World.{start}
 use Rattle.sd_link.specs.Steps.{Step, run, AllAllowed}
 use Rattle.sd_link.specs.Parts.{got_in}
 use Rattle.sd_link.specs.Requests.{AsksOnlyFor, KeepsOffRpc}
-use Rattle.sd_link.proofs.InFlight.{all_always}
-use Rattle.sd_link.proofs.NoRequests.{ack_asks_not, error_asks_not}
+use Rattle.sd_config.proofs.Lists.{all_always}
+use Rattle.sd_services.proofs.NoRequests.{ack_asks_not, error_asks_not}
 use Rattle.sd_link.proofs.FromServer.{AnyPacket}
 use Rattle.sd_link.proofs.BlocksInFlight.{blocks_kept, blocks_got}
 use Rattle.sd_link.proofs.AskedFor.{AsksRight, asks_on}

@@ -1,11 +1,11 @@
 -- What a client does after it learned its address.
 use Rattle.std.specs.Prelude.{ℕ, ◌+◌, List, [], ◌++◌}
-use Rattle.sd_link.specs.Config.{IsFor}
-use Rattle.sd_link.specs.Program.{program_name}
+use Rattle.sd_config.specs.Config.{IsFor}
+use Rattle.sd_config.specs.Program.{program_name}
 use Rattle.sd_link.specs.Steps.{Step, History}
 use Rattle.sd_link.specs.Tries.{Answered}
 use Rattle.sd_rpc_retry.specs.declared.calling.Caller.{Caller}
-use Rattle.sd_script.specs.declared.told.Told.{Told}
+use Rattle.sd_config.specs.declared.told.Told.{Told}
 use Rattle.sd_claims.specs.Rarp.{Learned, rarp_request, rarp_hearing}
 use Rattle.sd_claims.specs.Fetching.{Fetch}
 use Rattle.sd_claims.specs.Booting.{Counts}

@@ -7,8 +7,8 @@ use Rattle.sd_tftp.specs.ReceiverTurn.{Turn}
 use Rattle.sd_outside.specs.declared.packet.Addr.{Addr}
 use Rattle.sd_outside.specs.declared.packet.Packet.{Packet}
 use Rattle.std.specs.List.{concat}
-use Rattle.sd_link.specs.Config.{IsConfig}
-use Rattle.sd_link.specs.Program.{boot_file}
+use Rattle.sd_config.specs.Config.{IsConfig}
+use Rattle.sd_config.specs.Program.{boot_file}
 use Rattle.sd_link.specs.Requests.{AsksOnlyFor, KeepsOffRpc}
 use Rattle.sd_link.specs.Steps.{Step, Send, History, IsLawfulSoFar, world_of}
 use Rattle.sd_claims.specs.Fetching.{Fetch, Fetched, FetchTimedOut, FetchFlooded, FetchRefused, FetchTooLarge, progress, courtesy}

@@ -1,16 +1,16 @@
 -- What came of the calls that follow the boot program, in the code's words and in the standard's.
 use Rattle.std.specs.Prelude.{◌≡◌, ℕ, ◌+◌, ◌==◌, if◌then◌else◌, List, Some, Result, Ok, Err}
 use Rattle.sd_outside.specs.declared.errors.NoMemory.{NoMemory}
-use Rattle.sd_link.specs.declared.link.Stage.{Stage}
-use Rattle.sd_link.specs.declared.link.Stage.TheVariants as stage
+use Rattle.sd_config.specs.declared.stage.Stage.{Stage}
+use Rattle.sd_config.specs.declared.stage.Stage.TheVariants as stage
 use Rattle.sd_link.specs.Steps.{Step, History}
 use Rattle.sd_rpc_retry.specs.declared.calling.Answer.{Answer}
 use Rattle.sd_rpc_retry.specs.declared.calling.Answer.TheVariants as answers
 use Rattle.sd_rpc_retry.specs.declared.calling.CallError.{CallError}
 use Rattle.sd_rpc_retry.specs.declared.calling.CallError.TheVariants as error
 use Rattle.sd_rpc_retry.specs.declared.calling.Caller.{Caller}
-use Rattle.sd_script.specs.declared.told.Told.{Told}
-use Rattle.sd_script.specs.declared.told.Told.TheVariants.{BootUnbuilt, BootTimeout, BootFlood, BootDenied, BootNoPort, BootLinkFault}
+use Rattle.sd_config.specs.declared.told.Told.{Told}
+use Rattle.sd_config.specs.declared.told.Told.TheVariants.{BootUnbuilt, BootTimeout, BootFlood, BootDenied, BootNoPort, BootLinkFault}
 use Rattle.sd_claims.specs.Booting.{Call, CallTold, CallDenied, CallTimedOut, CallFlooded, AfterCall, whoami_call, following}
 use Rattle.sd_claims.specs.Causes.{calls_at}
 use Rattle.sd_boot_chain.specs.declared.root.Unanswered.{Unanswered}

@@ -2,7 +2,7 @@
 ghost use Rattle.std.specs.Prelude.{◌≡◌, ◌≤◌, IfOk};
 ghost use Rattle.std.specs.Option.{option_map};
 ghost use Rattle.sd_outside.specs.Causes.{Rose};
-ghost use Rattle.sd_link.specs.Config.{IsFor, IsClientConfig};
+ghost use Rattle.sd_config.specs.Config.{IsFor, IsClientConfig};
 ghost use Rattle.sd_link.specs.Link.{Moves};
 ghost use Rattle.sd_claims.specs.Rarp.{learned_from, rarp_request, rarp_hearing};
 ghost use Rattle.sd_rpc_retry.specs.Lasting.{Lasts, most_asking_ticks};
@@ -12,11 +12,11 @@ ghost use Rattle.sd_claims.specs.Ending.{EndsAfter};
 ghost use Rattle.sd_boot_chain.specs.Step.{IsFault};
 ghost use Rattle.sd_boot_chain.specs.Address.{shows_learned};
 
-use sd_link::{ClientConfig, Link, Stage};
+use sd_config::{ClientConfig, Stage, Told};
+use sd_link::Link;
 use sd_outside::{ByteList, Mac, NoMemory, Packet};
 use sd_rarp::{RarpFrame, read_frame, write_frame};
 use sd_rpc_retry::{Asked, Listener, Look, ask};
-use sd_script::Told;
 use std::alloc::Global;
 
 /// What a reply tells.

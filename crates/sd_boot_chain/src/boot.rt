@@ -1,10 +1,10 @@
 //! How the client boots, as far as that is built: RARP, TFTP from the responder, and the calls that lead to its root.
 ghost use Rattle.std.specs.Prelude.{◌≡◌, ◌≤◌, ◌+◌, ◌%◌, IfOk, OnOk};
-ghost use Rattle.sd_script.specs.declared.script.Command.TheVariants as commands;
+ghost use Rattle.sd_config.specs.declared.command.Command.TheVariants as commands;
 ghost use Rattle.sd_outside.specs.Causes.{Rose};
-ghost use Rattle.sd_link.specs.Config.{IsArch};
+ghost use Rattle.sd_config.specs.Config.{IsArch};
 ghost use Rattle.sd_link.specs.Link.{Moves};
-ghost use Rattle.sd_link.specs.Program.{program_name};
+ghost use Rattle.sd_config.specs.Program.{program_name};
 ghost use Rattle.sd_tftp.specs.Grammar.{HasNoZero};
 ghost use Rattle.sd_rpc_retry.specs.Lasting.{Lasts};
 ghost use Rattle.sd_boot_chain.specs.Durations.{most_ticks, most_boot_ticks, most_calls_ticks, most_calls, HasCallsLeft};
@@ -17,10 +17,10 @@ use crate::address::Learned;
 use crate::client::Client;
 use crate::fetch::{Fetched, fetch};
 use crate::root::{answer_to, find_mount};
-use sd_link::{Link, Stage};
+use sd_config::{Stage, Told};
+use sd_link::Link;
 use sd_outside::{ByteList, NoMemory};
 use sd_rpc_retry::Asked;
-use sd_script::Told;
 use std::alloc::Global;
 
 /// The address as eight hexadecimal digits, and the architecture after a dot.

@@ -1,9 +1,9 @@
 //! The diskless client.
 ghost use Rattle.std.specs.Prelude.{◌≡◌, ◌≤◌, ◌+◌, ◌%◌, IfOk};
 ghost use Rattle.sd_outside.specs.Causes.{Rose};
-ghost use Rattle.sd_link.specs.Config.{IsFor, IsClientConfig};
+ghost use Rattle.sd_config.specs.Config.{IsFor, IsClientConfig};
 ghost use Rattle.sd_link.specs.Link.{Moves};
-ghost use Rattle.sd_script.specs.Rules.{IsCommand};
+ghost use Rattle.sd_config.specs.Commands.{IsCommand};
 ghost use Rattle.sd_claims.specs.Causes.{IsAddrCaused};
 ghost use Rattle.sd_claims.specs.Ending.{EndsAfter};
 ghost use Rattle.sd_claims.specs.Rarp.{rarp_request, rarp_hearing};
@@ -20,10 +20,10 @@ use crate::address::{Learned, learn, own_address};
 use crate::boot::program_name;
 use crate::fetch::Task;
 use crate::pause::wait;
-use sd_link::{ClientConfig, Link};
+use sd_config::{ClientConfig, Command, Told};
+use sd_link::Link;
 use sd_outside::{Addr, ByteList, NoMemory};
 use sd_rpc_retry::{Asked, Caller};
-use sd_script::{Command, Told};
 use std::alloc::Global;
 use std::marker::Model;
 
@@ -48,7 +48,7 @@ pub struct Client {
 
 impl Model for Client {
     ghost use Rattle.std.specs.Prelude.{◌<◌};
-    ghost use Rattle.sd_link.specs.Config.{IsClientConfig};
+    ghost use Rattle.sd_config.specs.Config.{IsClientConfig};
     ghost use Rattle.sd_boot_chain.specs.Step.{ClientView};
 
     ghost Value = { ClientView };

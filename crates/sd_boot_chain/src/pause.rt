@@ -8,10 +8,10 @@ ghost use Rattle.sd_boot_chain.specs.Step.{IsFault};
 ghost use Rattle.sd_rpc_retry.specs.Lasting.{Lasts, StaysBefore};
 ghost use Rattle.sd_boot_chain.specs.Pause.{Passes, IsPause};
 
+use sd_config::Told;
 use sd_link::{Link, LinkError};
 use sd_outside::NoMemory;
 use sd_rpc_retry::FLOOD;
-use sd_script::Told;
 
 /// How a pause ended.
 #[derive(Clone, Copy)]

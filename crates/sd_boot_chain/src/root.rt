@@ -4,7 +4,7 @@ ghost use Rattle.std.specs.Prelude.{◌≡◌, ◌<◌, ◌≤◌, ◌+◌, ◌-
 ghost use Rattle.sd_bootparams.specs.Layout.{name_limit, key_limit};
 ghost use Rattle.sd_outside.specs.Causes.{Rose};
 ghost use Rattle.sd_link.specs.Link.{Moves};
-ghost use Rattle.sd_link.specs.declared.link.Stage.TheVariants as stage;
+ghost use Rattle.sd_config.specs.declared.stage.Stage.TheVariants as stage;
 ghost use Rattle.sd_rpc_retry.specs.declared.calling.CallError.TheVariants as error;
 ghost use Rattle.sd_rpc_retry.specs.declared.calling.Answer.TheVariants as answers;
 ghost use Rattle.sd_rpc_retry.specs.Calling.{AskFits};
@@ -14,10 +14,10 @@ ghost use Rattle.sd_claims.specs.Booting.{CallTold, after_call, portmapper, whoa
 ghost use Rattle.sd_boot_chain.specs.Durations.{most_calls_ticks};
 ghost use Rattle.sd_boot_chain.specs.Root.{CallCame, LeadsTo, CallsCame, calls_of, answer_without, answer_to};
 
-use sd_link::{Link, Stage};
+use sd_config::{Stage, Told};
+use sd_link::Link;
 use sd_outside::{Addr, ByteList, NoMemory};
 use sd_rpc_retry::{Answer, Ask, CallError, Caller};
-use sd_script::Told;
 use std::alloc::Global;
 
 /// The portmapper's port.

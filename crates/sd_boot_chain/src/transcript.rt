@@ -2,12 +2,12 @@
 ghost use Rattle.std.specs.Prelude.{◌≡◌, ◌≤◌, ◌+◌, length, IfOk, OnOk, OnErr, IfSome, IsErrOf};
 ghost use Rattle.std.specs.List.{All};
 ghost use Rattle.sd_outside.specs.Causes.{Rose};
-ghost use Rattle.sd_link.specs.Config.{IsFor, IsClientConfig};
+ghost use Rattle.sd_config.specs.Config.{IsFor, IsClientConfig};
 ghost use Rattle.sd_link.specs.Steps.{whole_record};
 ghost use Rattle.sd_link.specs.Printing.{record_text};
 ghost use Rattle.sd_link.specs.Link.{Moves};
-ghost use Rattle.sd_script.specs.Limits.{command_limit};
-ghost use Rattle.sd_script.specs.Rules.{IsCommand};
+ghost use Rattle.sd_config.specs.Commands.{command_limit};
+ghost use Rattle.sd_config.specs.Commands.{IsCommand};
 ghost use Rattle.sd_claims.specs.Booting.{first_counts};
 ghost use Rattle.sd_claims.specs.Session.{IsSession, IsCutSession};
 ghost use Rattle.sd_rpc_retry.specs.Lasting.{Lasts};
@@ -16,9 +16,10 @@ ghost use Rattle.sd_boot_chain.specs.Step.{HasCounted, IsStep};
 
 use crate::client::Client;
 use crate::writing::write_all;
-use sd_link::{ClientConfig, Link};
+use sd_config::{ClientConfig, Command, CommandList};
+use sd_link::Link;
 use sd_outside::{ByteList, Failed, NoMemory, Sink};
-use sd_script::{Command, CommandList, write_answer};
+use sd_script::write_answer;
 use std::alloc::Global;
 
 /// Why a session ended before its commands did.

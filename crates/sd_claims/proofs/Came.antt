@@ -1,7 +1,7 @@
 -- What an answer shows was configured, and came in its part.
 use Rattle.std.proofs.Common.{ℕ, List, [], ◌∷◌, ◌++◌, refl, sym, ◌∙◌, ap}
-use Rattle.sd_link.specs.declared.config.Config.{Config}
-use Rattle.sd_link.specs.declared.link.Stage.TheVariants as stage
+use Rattle.sd_config.specs.declared.config.Config.{Config}
+use Rattle.sd_config.specs.declared.stage.Stage.TheVariants as stage
 use Rattle.sd_link.specs.Steps.{Step, Get}
 use Rattle.sd_link.specs.Parts.{got_in}
 use Rattle.sd_link.proofs.Histories.{got-append}

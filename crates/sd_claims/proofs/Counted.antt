@@ -1,9 +1,9 @@
 -- What the client counts, and the ports of its fetches.
 use Rattle.std.proofs.Common.{◌≡◌, ℕ, ◌+◌, ◌<◌, List, inl, inr, arith}
-use Rattle.sd_link.specs.declared.config.Config.{Config}
-use Rattle.sd_link.specs.declared.link.Stage.TheVariants as stage
+use Rattle.sd_config.specs.declared.config.Config.{Config}
+use Rattle.sd_config.specs.declared.stage.Stage.TheVariants as stage
 use Rattle.sd_link.specs.Steps.{Step}
-use Rattle.sd_script.specs.declared.told.Told.TheVariants as told
+use Rattle.sd_config.specs.declared.told.Told.TheVariants as told
 use Rattle.sd_claims.specs.Fetching.{Fetch, FetchTimedOut, FetchFlooded, FetchRefused, FetchTooLarge}
 use Rattle.sd_claims.specs.Booting.{Counts, AfterAddress}
 use Rattle.sd_claims.specs.Laws.{UncountedBoot, NoProgram, UncountedCalls, PortsDiffer}

@@ -1,8 +1,8 @@
 -- The steps of a boot, in order: RARP, TFTP from the responder, WHOAMI, GETFILE of the root, and GETPORT of MOUNT.
 use Rattle.std.specs.Prelude.{◌≡◌, ℕ, ◌+◌, ◌-◌, ◌^◌, ◌%◌, ◌<◌, List, [], ◌++◌, codes, Option, Some, None, Ok, Err}
 use Rattle.sd_outside.specs.declared.packet.Addr.{Addr}
-use Rattle.sd_link.specs.declared.config.Config.{Config}
-use Rattle.sd_link.specs.Program.{program_name}
+use Rattle.sd_config.specs.declared.config.Config.{Config}
+use Rattle.sd_config.specs.Program.{program_name}
 use Rattle.sd_link.specs.Steps.{Step}
 use Rattle.sd_link.specs.Tries.{Answered, Flooded, TimedOut}
 use Rattle.sd_rpc_retry.specs.declared.calling.Ask.{Ask}
@@ -10,7 +10,7 @@ use Rattle.sd_rpc_retry.specs.declared.calling.Ask.TheVariants as asks
 use Rattle.sd_rpc_retry.specs.declared.calling.Answer.{Answer}
 use Rattle.sd_rpc_retry.specs.declared.calling.Answer.TheVariants as answers
 use Rattle.sd_rpc_retry.specs.declared.calling.Caller.{Caller}
-use Rattle.sd_link.specs.RpcReply.{pmap_port}
+use Rattle.sd_services.specs.RpcReply.{pmap_port}
 use Rattle.sd_rpc_retry.specs.Calling.{Verdict, request, hearing_of}
 use Rattle.sd_claims.specs.Rarp.{Learned, rarp_request, rarp_hearing}
 use Rattle.sd_claims.specs.Fetching.{Fetch, Fetched}

@@ -1,12 +1,12 @@
 -- How a command ends: what waits for the client where it sends, and where the command is over.
 use Rattle.std.specs.Prelude.{List, [], ◌∷◌, ◌++◌}
-use Rattle.sd_link.specs.declared.config.Config.{Config}
-use Rattle.sd_link.specs.Events.{Fates, fates_of}
+use Rattle.sd_config.specs.declared.config.Config.{Config}
+use Rattle.sd_config.specs.Events.{Fates, fates_of}
 use Rattle.sd_link.specs.World.{World}
 use Rattle.sd_link.specs.Steps.{Step, Entry, History, run, record_of, world_of, whole_record}
 use Rattle.sd_link.specs.Lawful.{AllGot, Settles, SendsSettled, EndsWithGet}
-use Rattle.sd_script.specs.declared.told.Told.{Told}
-use Rattle.sd_script.specs.declared.told.Told.TheVariants.{AddrOk, AddrTimeout, AddrFlood, AddrLinkFault, BootUnbuilt, BootTimeout, BootFlood, BootDenied, BootRefused, BootNoPort, BootTooLarge, BootLinkFault, WaitOk, WaitFlood, WaitLinkFault}
+use Rattle.sd_config.specs.declared.told.Told.{Told}
+use Rattle.sd_config.specs.declared.told.Told.TheVariants.{AddrOk, AddrTimeout, AddrFlood, AddrLinkFault, BootUnbuilt, BootTimeout, BootFlood, BootDenied, BootRefused, BootNoPort, BootTooLarge, BootLinkFault, WaitOk, WaitFlood, WaitLinkFault}
 use Rattle.sd_claims.specs.Transcript.{Done}
 
 -- Of a command that was done in these steps. Where nothing waited at first, the client sends only where nothing waits.

@@ -13,7 +13,7 @@ use Rattle.sd_tftp.specs.Grammar.{packet_bytes}
 use Rattle.sd_tftp.specs.Reading.{reading}
 use Rattle.sd_tftp.specs.Reception.{Reception, fresh}
 use Rattle.sd_tftp.specs.ReceiverTurn.{Turn, turn, ignored}
-use Rattle.sd_link.specs.Sessions.{tftp_port}
+use Rattle.sd_services.specs.Sessions.{tftp_port}
 use Rattle.sd_link.specs.Steps.{Step, Send}
 use Rattle.sd_link.specs.Tries.{Hearing, Answered, Flooded, TimedOut}
 

@@ -4,13 +4,13 @@ use Rattle.std.specs.List.{AllByRecursion}
 use Rattle.std.specs.Fmt.{decimal}
 use Rattle.sd_outside.specs.Streams.{Gains}
 use Rattle.sd_link.specs.World.{start}
-use Rattle.sd_link.specs.Events.{fates_of}
+use Rattle.sd_config.specs.Events.{fates_of}
 use Rattle.sd_link.specs.Lawful.{IsLawful, IsFrontOf}
-use Rattle.sd_script.specs.declared.script.Command.{Command}
-use Rattle.sd_script.specs.declared.script.Command.TheVariants.{Boot}
+use Rattle.sd_config.specs.declared.command.Command.{Command}
+use Rattle.sd_config.specs.declared.command.Command.TheVariants.{Boot}
 use Rattle.sd_script.specs.declared.script.Script.{Script}
-use Rattle.sd_script.specs.declared.told.Told.{Told}
-use Rattle.sd_script.specs.declared.told.Told.TheVariants.{AddrOk, AddrTimeout, AddrFlood, AddrLinkFault, BootUnbuilt, BootTimeout, BootFlood, BootDenied, BootRefused, BootNoPort, BootTooLarge, BootLinkFault, WaitOk, WaitFlood, WaitLinkFault}
+use Rattle.sd_config.specs.declared.told.Told.{Told}
+use Rattle.sd_config.specs.declared.told.Told.TheVariants.{AddrOk, AddrTimeout, AddrFlood, AddrLinkFault, BootUnbuilt, BootTimeout, BootFlood, BootDenied, BootRefused, BootNoPort, BootTooLarge, BootLinkFault, WaitOk, WaitFlood, WaitLinkFault}
 use Rattle.sd_script.specs.Grammar.{IsScript, IsFirstOutside}
 use Rattle.sd_claims.specs.Booting.{first_counts}
 use Rattle.sd_claims.specs.Machine.{first_state, IsRun}

@@ -2,14 +2,14 @@
 use Rattle.std.specs.Prelude.{◌≡◌, ◌≢◌, ℕ, ◌+◌, ◌<◌, ◌⊎◌, List, [], ◌∷◌, ◌++◌, Some}
 use Rattle.sd_outside.specs.declared.packet.Mac.{Mac}
 use Rattle.sd_outside.specs.declared.packet.Packet.{Packet}
-use Rattle.sd_link.specs.declared.config.Config.{Config}
-use Rattle.sd_link.specs.declared.link.Stage.{Stage}
-use Rattle.sd_link.specs.Program.{program_name, program_of}
+use Rattle.sd_config.specs.declared.config.Config.{Config}
+use Rattle.sd_config.specs.declared.stage.Stage.{Stage}
+use Rattle.sd_config.specs.Program.{program_name, program_of}
 use Rattle.sd_link.specs.Steps.{Step}
 use Rattle.sd_link.specs.Parts.{sends_in, got_in, ticks_in}
-use Rattle.sd_script.specs.declared.script.Command.TheVariants.{Addr, Boot, Wait}
-use Rattle.sd_script.specs.declared.told.Told.{Told}
-use Rattle.sd_script.specs.declared.told.Told.TheVariants.{AddrOk, AddrLinkFault, BootUnbuilt, BootLinkFault, WaitOk, WaitLinkFault}
+use Rattle.sd_config.specs.declared.command.Command.TheVariants.{Addr, Boot, Wait}
+use Rattle.sd_config.specs.declared.told.Told.{Told}
+use Rattle.sd_config.specs.declared.told.Told.TheVariants.{AddrOk, AddrLinkFault, BootUnbuilt, BootLinkFault, WaitOk, WaitLinkFault}
 use Rattle.sd_claims.specs.Machine.{State, Answers}
 use Rattle.sd_claims.specs.Rarp.{learned_from, Learned}
 use Rattle.sd_claims.specs.Fetching.{Fetch, Fetched, FetchTimedOut, FetchFlooded, FetchRefused, FetchTooLarge}

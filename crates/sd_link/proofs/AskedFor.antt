@@ -7,13 +7,14 @@ use Rattle.sd_outside.specs.declared.packet.Packet.{Packet}
 use Rattle.sd_outside.specs.declared.packet.Packet.TheVariants.{Frame, Udp}
 use Rattle.sd_tftp.specs.declared.packet.TftpPacket.TheVariants.{Rrq}
 use Rattle.sd_tftp.specs.Reading.{reading}
-use Rattle.sd_link.specs.declared.config.Config.{Config}
-use Rattle.sd_link.specs.Config.{IsConfig}
+use Rattle.sd_config.specs.declared.config.Config.{Config}
+use Rattle.sd_config.specs.Config.{IsConfig}
 use Rattle.sd_link.specs.World.{World, Sender, Client, Server, start}
 use Rattle.sd_link.specs.Steps.{Step, run}
 use Rattle.sd_link.specs.Parts.{sends_in}
 use Rattle.sd_link.specs.Requests.{AsksOnlyFor}
-use Rattle.sd_link.proofs.InFlight.{all_always, all_at, SentFine, FlyingFine, Keeps}
+use Rattle.sd_link.proofs.InFlight.{SentFine, FlyingFine, Keeps}
+use Rattle.sd_config.proofs.Lists.{all_always, all_at}
 use Rattle.sd_link.proofs.FromServer.{IsServers, AnyPacket, AnySession, servers_run}
 
 -- a packet from there that asks for a file asks for this one

@@ -16,19 +16,21 @@ use Rattle.sd_tftp.specs.Blocks.{block_at}
 use Rattle.sd_tftp.specs.Grammar.{packet_bytes, spells_error, spells_data}
 use Rattle.sd_tftp.specs.Reading.{reading}
 use Rattle.sd_tftp.proofs.Whole.{spelled_is_read}
-use Rattle.sd_link.specs.declared.config.BootFile.{BootFile}
-use Rattle.sd_link.specs.declared.config.Config.{Config}
-use Rattle.sd_link.specs.Config.{IsConfig, IsBootFile, boot_file_limit}
-use Rattle.sd_link.specs.Program.{boot_file}
-use Rattle.sd_link.specs.World.{World, Flying, Server, Session, ServerPart, start}
-use Rattle.sd_link.specs.Sessions.{bytes_or_none, file_of, present_block, block_packet, new_session, sent_again, next_block}
-use Rattle.sd_link.specs.RpcReply.{is_rpc_port}
-use Rattle.sd_link.specs.Reply.{rarp_answer, as_frame}
+use Rattle.sd_config.specs.declared.config.BootFile.{BootFile}
+use Rattle.sd_config.specs.declared.config.Config.{Config}
+use Rattle.sd_config.specs.Config.{IsConfig, IsBootFile, boot_file_limit}
+use Rattle.sd_config.specs.Program.{boot_file}
+use Rattle.sd_link.specs.World.{World, Flying, Server, start}
+use Rattle.sd_services.specs.Part.{Session, ServerPart}
+use Rattle.sd_services.specs.Sessions.{bytes_or_none, file_of, present_block, block_packet, new_session, sent_again, next_block}
+use Rattle.sd_services.specs.RpcReply.{is_rpc_port}
+use Rattle.sd_services.specs.Reply.{rarp_answer, as_frame}
 use Rattle.sd_link.specs.Steps.{Step, run, AllAllowed}
 use Rattle.sd_link.specs.Parts.{sends_in, got_in}
 use Rattle.sd_link.specs.Requests.{AsksOnlyFor, IsRpcPort, KeepsOffRpc}
-use Rattle.sd_link.proofs.RpcSilence.{rpc_port_is, all_replies}
-use Rattle.sd_link.proofs.InFlight.{all_always, all_at, all_found, all_recursive, Rules, AllAsk, SentFine, FlyingFine, Keeps, keeps_run, keeps_got}
+use Rattle.sd_services.proofs.RpcSilence.{rpc_port_is, all_replies}
+use Rattle.sd_link.proofs.InFlight.{Rules, AllAsk, SentFine, FlyingFine, Keeps, keeps_run, keeps_got}
+use Rattle.sd_config.proofs.Lists.{all_always, all_at, all_found, all_recursive}
 use Rattle.sd_link.proofs.FromServer.{AnyPacket}
 
 -- the session sends the file of this name, and its present block stands in it or right behind its end

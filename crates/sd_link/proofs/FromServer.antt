@@ -17,17 +17,19 @@ use Rattle.sd_tftp.specs.declared.packet.TftpPacket.TheVariants.{Rrq}
 use Rattle.sd_tftp.specs.Reading as tftp
 use Rattle.sd_rarp.proofs.RoundTrip.{reading-reply}
 use Rattle.sd_rarp.proofs.Fields.{request_at, mac_wide}
-use Rattle.sd_link.specs.declared.config.Config.{Config}
-use Rattle.sd_link.specs.Config.{IsConfig}
-use Rattle.sd_link.specs.World.{World, Flying, Server, Session, start}
-use Rattle.sd_link.specs.Sessions.{present_block}
-use Rattle.sd_link.specs.RpcReply.{is_rpc_port}
-use Rattle.sd_link.specs.Reply.{rarp_answer, as_frame}
+use Rattle.sd_config.specs.declared.config.Config.{Config}
+use Rattle.sd_config.specs.Config.{IsConfig}
+use Rattle.sd_link.specs.World.{World, Flying, Server, start}
+use Rattle.sd_services.specs.Part.{Session}
+use Rattle.sd_services.specs.Sessions.{present_block}
+use Rattle.sd_services.specs.RpcReply.{is_rpc_port}
+use Rattle.sd_services.specs.Reply.{rarp_answer, as_frame}
 use Rattle.sd_link.specs.Steps.{Step, run, AllAllowed}
 use Rattle.sd_link.specs.Parts.{sends_in, got_in}
-use Rattle.sd_link.proofs.NoRequests.{block_asks_not, error_asks_not}
-use Rattle.sd_link.proofs.RpcSilence.{rpc_port_is, all_replies}
-use Rattle.sd_link.proofs.InFlight.{all_always, all_at, IsTftpPort, Rules, AllAsk, SentFine, FlyingFine, Keeps, keeps_run, keeps_got}
+use Rattle.sd_services.proofs.NoRequests.{block_asks_not, error_asks_not}
+use Rattle.sd_services.proofs.RpcSilence.{rpc_port_is, all_replies}
+use Rattle.sd_link.proofs.InFlight.{IsTftpPort, Rules, AllAsk, SentFine, FlyingFine, Keeps, keeps_run, keeps_got}
+use Rattle.sd_config.proofs.Lists.{all_always, all_at}
 
 -- the frame tells the client its address and the server's
 pub record TellsAddresses (c : Config) (bytes : List ℕ) : Type 0 where

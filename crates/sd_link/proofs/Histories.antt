@@ -2,14 +2,15 @@
 use Rattle.std.proofs.Common.{◌≡◌, ℕ, ◌+◌, ◌≤◌, List, [], ◌∷◌, ◌++◌, Option, Some, None, slice_get, refl, sym, ◌∙◌, ap, subst, arith, append_assoc}
 use Rattle.std.proofs.lemmas.List.{append-nil}
 use Rattle.sd_outside.specs.declared.packet.Packet.{Packet}
-use Rattle.sd_link.specs.declared.config.Config.{Config}
-use Rattle.sd_link.specs.World.{World, Session, Flying, start}
+use Rattle.sd_config.specs.declared.config.Config.{Config}
+use Rattle.sd_link.specs.World.{World, Flying, start}
+use Rattle.sd_services.specs.Part.{Session}
 use Rattle.sd_link.specs.Steps.{Step, Tick, Send, Serve, Data, End, Get, Entry, after, entries_of, run, AllAllowed, record_of, served, resent, History, world_of, whole_record, IsLawfulSoFar}
-use Rattle.sd_link.specs.Sessions.{session_in}
+use Rattle.sd_services.specs.Sessions.{session_in}
 use Rattle.sd_link.specs.Parts.{sends_in, got_in, ticks_in}
 use Rattle.sd_link.specs.Link.{GoesOn, Moves, TicksBefore, NothingWaits, IsSettledBy}
-use Rattle.sd_link.specs.declared.events.Events.{Events}
-use Rattle.sd_link.specs.Events.{Fates, fates_of}
+use Rattle.sd_config.specs.declared.events.Events.{Events}
+use Rattle.sd_config.specs.Events.{Fates, fates_of}
 use Rattle.sd_link.specs.Lawful.{AllInTurn, AllGot}
 
 -- ---- lists of steps

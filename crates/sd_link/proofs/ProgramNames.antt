@@ -6,9 +6,9 @@ use Rattle.std.specs.Int.{w32, to_be_bytes}
 use Rattle.hex.specs.Hex.{encode_with, encode_upper, upper_digits, hex_digit_value}
 use Rattle.hex.proofs.HexLemmas.{IsDigits-upper_digits}
 use Rattle.sd_tftp.specs.Grammar.{HasNoZero}
-use Rattle.sd_link.specs.Config.{IsArch, is_name_byte}
-use Rattle.sd_link.specs.Program.{program_name, arch_suffix}
-use Rattle.sd_link.proofs.InFlight.{all_recursive}
+use Rattle.sd_config.specs.Config.{IsArch, is_name_byte}
+use Rattle.sd_config.specs.Program.{program_name, arch_suffix}
+use Rattle.sd_config.proofs.Lists.{all_recursive}
 
 clean_append : (xs ys : List ℕ) → HasNoZero xs → HasNoZero ys → HasNoZero (xs ++ ys)
 clean_append [] ys first second = second

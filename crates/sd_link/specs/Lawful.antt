@@ -4,10 +4,10 @@
 use Rattle.std.specs.Prelude.{◌≡◌, ℕ, ◌+◌, List, [], ◌∷◌, ◌++◌, map, filter, Bool, ◌==◌, if◌then◌else◌}
 use Rattle.std.specs.List.{flat_map, enumerate_from}
 use Rattle.sd_outside.specs.declared.packet.Packet.{Packet}
-use Rattle.sd_link.specs.declared.config.Config.{Config}
-use Rattle.sd_link.specs.Events.{Fates}
+use Rattle.sd_config.specs.declared.config.Config.{Config}
+use Rattle.sd_config.specs.Events.{Fates}
 use Rattle.sd_link.specs.World.{World, Flying, Sender, start}
-use Rattle.sd_link.specs.Sessions.{is_due}
+use Rattle.sd_services.specs.Sessions.{is_due}
 use Rattle.sd_link.specs.Steps.{Step, Tick, Send, Serve, Data, End, Get, Entry, Sent, Served, Got, after, entries_of, run, record_of, AllAllowed, goes_to_server, goes_to_client}
 
 -- the front is where the whole begins

@@ -1,11 +1,4 @@
-pub mod Config
-pub mod Program
-pub mod Events
 pub mod World
-pub mod Sessions
-pub mod RpcCalls
-pub mod RpcReply
-pub mod Reply
 pub mod Steps
 pub mod Requests
 pub mod Parts
@@ -13,8 +6,4 @@ pub mod Link
 pub mod Tries
 pub mod Printing
 pub mod Lawful
-pub mod Files
-pub mod Names
-pub mod Decisions
-pub mod NfsReply
 pub mod MemLinks

@@ -4,9 +4,9 @@ use Rattle.sd_outside.specs.declared.packet.Packet.{Packet}
 use Rattle.sd_outside.specs.Causes.{Rose}
 use Rattle.sd_link.specs.declared.link.LinkError.{LinkError}
 use Rattle.sd_link.specs.declared.link.LinkError.TheVariants.{Failed, NoMemory}
-use Rattle.sd_link.specs.declared.config.Config.{Config}
+use Rattle.sd_config.specs.declared.config.Config.{Config}
 use Rattle.sd_link.specs.World.{World}
-use Rattle.sd_link.specs.Events.{fates_of}
+use Rattle.sd_config.specs.Events.{fates_of}
 use Rattle.sd_link.specs.Lawful.{AllGot, Settles}
 use Rattle.sd_link.specs.Steps.{Step, Tick, Send, Serve, Data, End, Get, History, after, run, world_of, whole_record, IsLawfulSoFar}
 use Rattle.sd_link.specs.Parts.{sends_in, got_in}

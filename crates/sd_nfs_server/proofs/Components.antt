@@ -5,9 +5,9 @@ use Rattle.std.specs.List.{All, Contains, list_any, slice_split, onto_first}
 use Rattle.std.proofs.lemmas.List.Elements.{All-cons, Contains-append_left, Contains-append_right}
 use Rattle.std.proofs.lemmas.List.Splits.{length-slice_split, slice_split_none, slice_split-cons_yes, slice_split-cons_no}
 use Rattle.std.proofs.lemmas.Bool.{eqb-true}
-use Rattle.sd_link.specs.Config.{IsPath, IsComponent}
-use Rattle.sd_link.specs.Names.{child_name}
-use Rattle.sd_link.proofs.Order.{Where, here, behind, find_in, at_head}
+use Rattle.sd_config.specs.Config.{IsPath, IsComponent}
+use Rattle.sd_services.specs.Names.{child_name}
+use Rattle.sd_services.proofs.Order.{Where, here, behind, find_in, at_head}
 use Rattle.sd_nfs_server.specs.Fits.{NameFits}
 
 abbrev pub is_slash : ℕ → Bool

@@ -11,12 +11,12 @@ use Rattle.sd_nfs_msg.specs.declared.message.NfsArgs.{NfsArgs}
 use Rattle.sd_nfs_msg.specs.declared.message.NfsArgs.TheVariants as asks
 use Rattle.sd_nfs_msg.specs.declared.message.NfsResult.TheVariants as results
 use Rattle.sd_nfs_msg.specs.Layout.{ResultFits, EntryFits}
-use Rattle.sd_link.specs.declared.node.Node.{Node}
-use Rattle.sd_link.specs.declared.node.Standing.{Standing}
-use Rattle.sd_link.specs.declared.node.Standing.TheVariants as standing
-use Rattle.sd_link.specs.Files.{Exported, Place, named_by}
-use Rattle.sd_link.specs.Names.{child_name, onto, children, parent, called, listed, entries, entry_size, window}
-use Rattle.sd_link.specs.Decisions.{on_root, on_swap, lookup, looks_up, readlink, read, readdir, node_at, bytes_read, first_handle, changes_nothing, swap_attributes, refused}
+use Rattle.sd_services.specs.declared.node.Node.{Node}
+use Rattle.sd_services.specs.declared.node.Standing.{Standing}
+use Rattle.sd_services.specs.declared.node.Standing.TheVariants as standing
+use Rattle.sd_services.specs.Files.{Exported, Place, named_by}
+use Rattle.sd_services.specs.Names.{child_name, onto, children, parent, called, listed, entries, entry_size, window}
+use Rattle.sd_services.specs.Decisions.{on_root, on_swap, lookup, looks_up, readlink, read, readdir, node_at, bytes_read, first_handle, changes_nothing, swap_attributes, refused}
 use Rattle.sd_nfs_server.specs.declared.plan.NfsPlan.{NfsPlan}
 use Rattle.sd_nfs_server.specs.Fits.{StandingFits, NameFits, NodesFit, FilesFit}
 use Rattle.sd_nfs_server.specs.Plan.{Decision, decision, decision_of, handle_decision, place_decision, swap_file_decision}

@@ -7,8 +7,8 @@ use Rattle.std.specs.Cmp.Lexicographic.{bytes_decides}
 use Rattle.std.proofs.Math.Bool.{true≢false}
 use Rattle.std.proofs.lemmas.Nat.{from_be_bytes-to_be_bytes_4}
 use Rattle.std.proofs.lemmas.List.Elements.{Contains-append_left, Contains-append_right, Contains-append_cases}
-use Rattle.sd_link.specs.declared.node.Node.{Node}
-use Rattle.sd_link.specs.Files.{Exported, Place, root_places, swap_places, live, handle, named_by, Names}
+use Rattle.sd_services.specs.declared.node.Node.{Node}
+use Rattle.sd_services.specs.Files.{Exported, Place, root_places, swap_places, live, handle, named_by, Names}
 use Rattle.sd_nfs_server.specs.Fits.{FilesFit}
 use Rattle.sd_nfs_server.specs.Live.{IsLive, Finds}
 

@@ -3,10 +3,10 @@ use Rattle.std.proofs.Common.{◌≡◌, ℕ, ◌+◌, ◌-◌, ◌<◌, ◌≤�
 use Rattle.std.specs.Prelude.{◌⊎◌, insert, All, Contains, slice_index}
 use Rattle.std.proofs.lemmas.List.{length-take}
 use Rattle.std.proofs.lemmas.List.Edits.{get_or-insert_at, get_or-insert_below, get_or-insert_above}
-use Rattle.sd_link.specs.declared.node.Node.{Node}
-use Rattle.sd_link.specs.Files.{directory_at}
+use Rattle.sd_services.specs.declared.node.Node.{Node}
+use Rattle.sd_services.specs.Files.{directory_at}
 use Rattle.sd_nfs_server.specs.Placing.{IsPlaceOf, HasPathAt, Placed, PlacedDirectories, none_yet, no_slash, one_more}
-use Rattle.sd_link.proofs.Order.{Ascends, Rank, below, level, higher, rank}
+use Rattle.sd_services.proofs.Order.{Ascends, Rank, below, level, higher, rank}
 use Rattle.sd_nfs_server.proofs.Order.{insert_ascends, length_insert}
 
 pub record Kept (S : Node → Type 0) (nodes : List Node) : Type 0 where

@@ -3,16 +3,16 @@ use Rattle.std.proofs.Common.{◌≡◌, ℕ, ◌+◌, ◌*◌, ◌<◌, ◌≤�
 use Rattle.std.specs.Prelude.{◌⊎◌, insert, slice_index}
 use Rattle.std.proofs.lemmas.List.{length-take, length-append, take-append-drop, drop_more, get_or_default, get_or_at}
 use Rattle.std.proofs.Math.Seq.{take-append_seam}
-use Rattle.sd_link.specs.declared.config.RootItem.{RootItem}
-use Rattle.sd_link.specs.declared.config.RootItem.TheVariants as items
-use Rattle.sd_link.specs.declared.node.Node.{Node}
-use Rattle.sd_link.specs.declared.node.Standing.{Standing}
-use Rattle.sd_link.specs.declared.node.Standing.TheVariants as standing
-use Rattle.sd_link.specs.Config.{item_path, IsRootItem, AreRootItems, IsPath, IsDirectoryOf}
-use Rattle.sd_link.specs.Files.{Stands, StandsAt, AreNumbered, directory_at, node_of, standing_of}
+use Rattle.sd_config.specs.declared.config.RootItem.{RootItem}
+use Rattle.sd_config.specs.declared.config.RootItem.TheVariants as items
+use Rattle.sd_services.specs.declared.node.Node.{Node}
+use Rattle.sd_services.specs.declared.node.Standing.{Standing}
+use Rattle.sd_services.specs.declared.node.Standing.TheVariants as standing
+use Rattle.sd_config.specs.Config.{item_path, IsRootItem, AreRootItems, IsPath, IsDirectoryOf}
+use Rattle.sd_services.specs.Files.{Stands, StandsAt, AreNumbered, directory_at, node_of, standing_of}
 use Rattle.sd_nfs_server.specs.Fits.{StandingFits, NameFits, NodesFit}
 use Rattle.sd_nfs_server.specs.Placing.{HasPathAt, Placed, PlacedDirectories, none_yet, no_slash, one_more, PlacedItem, LookedAt}
-use Rattle.sd_link.proofs.Order.{Rank, below, level, higher, rank}
+use Rattle.sd_services.proofs.Order.{Rank, below, level, higher, rank}
 use Rattle.sd_nfs_server.proofs.Order.{length_insert}
 use Rattle.sd_nfs_server.proofs.Components.{name_of_root, name_of_path, name_of_front}
 use Rattle.sd_nfs_server.proofs.Keeping.{Kept, kept_as, placed_keeps, IsOnWay, directories_keep}

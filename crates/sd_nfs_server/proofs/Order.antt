@@ -7,9 +7,9 @@ use Rattle.std.specs.declared.cmp.Ordering.{Ordering}
 use Rattle.std.specs.declared.cmp.Ordering.TheVariants.{Less, Equal, Greater}
 use Rattle.std.proofs.lemmas.List.{get_or_default, length-append, length-take, length-drop}
 use Rattle.std.proofs.lemmas.List.Edits.{get_or-insert_at, get_or-insert_below, get_or-insert_above}
-use Rattle.sd_link.specs.declared.node.Node.{Node}
-use Rattle.sd_link.specs.Files.{IsBefore}
-use Rattle.sd_link.proofs.Order.{Ascends, before_trans, same_text, turned_round, Rank, below, level, higher, rank}
+use Rattle.sd_services.specs.declared.node.Node.{Node}
+use Rattle.sd_services.specs.Files.{IsBefore}
+use Rattle.sd_services.proofs.Order.{Ascends, before_trans, same_text, turned_round, Rank, below, level, higher, rank}
 use Rattle.sd_nfs_server.specs.Placing.{IsPlaceOf, HasPathAt, Placed}
 
 -- of two texts one is before the other, or they are the same

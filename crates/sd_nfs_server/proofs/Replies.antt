@@ -11,16 +11,16 @@ use Rattle.sd_nfs_msg.specs.declared.message.NfsArgs.TheVariants as asks
 use Rattle.sd_nfs_msg.specs.declared.message.NfsResult.{NfsResult}
 use Rattle.sd_nfs_msg.specs.declared.message.NfsResult.TheVariants as results
 use Rattle.sd_nfs_msg.specs.Layout.{ArgsFit}
-use Rattle.sd_link.specs.World.{Change}
-use Rattle.sd_link.specs.Files.{Exported, Place, live, named_by, handle}
-use Rattle.sd_link.specs.Decisions.{nfs_result, answered, decided, on_swap, on_root, node_at, on_swap_file, bytes_read, swap_attributes, refused, first_handle}
-use Rattle.sd_link.specs.NfsReply.{nfs_change, swap_change, is_swap_place, names_swap, uses_swap, swap_file}
+use Rattle.sd_services.specs.Part.{Change}
+use Rattle.sd_services.specs.Files.{Exported, Place, live, named_by, handle}
+use Rattle.sd_services.specs.Decisions.{nfs_result, answered, decided, on_swap, on_root, node_at, on_swap_file, bytes_read, swap_attributes, refused, first_handle}
+use Rattle.sd_services.specs.NfsReply.{nfs_change, swap_change, is_swap_place, names_swap, uses_swap, swap_file}
 use Rattle.sd_nfs_server.specs.declared.plan.NfsPlan.{NfsPlan}
 use Rattle.sd_nfs_server.specs.declared.plan.NfsPlan.TheVariants as plans
 use Rattle.sd_nfs_server.specs.Live.{IsLive}
 use Rattle.sd_nfs_server.specs.Plan.{Decision, decision, decision_of, handle_decision, place_decision, swap_file_decision, swap_decision, swap_access, range, read_len, IsSwapContent, filled, answer_of, change_of, is_write, bytes_of, is_swap, HasRange}
 use Rattle.sd_nfs_server.proofs.Handles.{live_in}
-use Rattle.sd_link.proofs.Order.{later, at_head, Rank, below, level, higher, rank}
+use Rattle.sd_services.proofs.Order.{later, at_head, Rank, below, level, higher, rank}
 
 -- ---- the same words of decisions
 

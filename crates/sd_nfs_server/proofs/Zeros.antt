@@ -6,9 +6,9 @@ use Rattle.std.proofs.Math.Nat.{min-eq_left, min-eq_right}
 use Rattle.sd_outside.specs.declared.fhandle.FHandle.{FHandle}
 use Rattle.sd_nfs_msg.specs.declared.message.NfsArgs.TheVariants as asks
 use Rattle.sd_nfs_msg.specs.declared.message.NfsResult.TheVariants as results
-use Rattle.sd_link.specs.Decisions.{bytes_read, swap_attributes, refused, err_acces, err_nospc}
+use Rattle.sd_services.specs.Decisions.{bytes_read, swap_attributes, refused, err_acces, err_nospc}
 use Rattle.sd_nfs_server.specs.Plan.{read_len, range, swap_refused, swap_done, swap_reads, swap_writes, swap_decision}
-use Rattle.sd_link.proofs.Order.{Rank, below, level, higher, rank}
+use Rattle.sd_services.proofs.Order.{Rank, below, level, higher, rank}
 
 take_zeros : (n m : ℕ) → take {A = ℕ} n (replicate m 0) ≡ replicate (min n m) 0
 take_zeros n m = by (rank n m)

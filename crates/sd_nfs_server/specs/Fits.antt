@@ -1,11 +1,11 @@
 -- What every tree keeps: its numbers and sizes fit their words.
 use Rattle.std.specs.Prelude.{ℕ, ◌≤◌, ⊤, List, length, IfSome}
 use Rattle.std.specs.List.{All}
-use Rattle.sd_link.specs.declared.node.Node.{Node}
-use Rattle.sd_link.specs.declared.node.Standing.{Standing}
-use Rattle.sd_link.specs.declared.node.Standing.TheVariants as standing
-use Rattle.sd_link.specs.Files.{Exported}
-use Rattle.sd_link.specs.Names.{child_name}
+use Rattle.sd_services.specs.declared.node.Node.{Node}
+use Rattle.sd_services.specs.declared.node.Standing.{Standing}
+use Rattle.sd_services.specs.declared.node.Standing.TheVariants as standing
+use Rattle.sd_services.specs.Files.{Exported}
+use Rattle.sd_services.specs.Names.{child_name}
 
 abbrev pub StandingFits : Standing → Type 0
 StandingFits standing.Directory = ⊤

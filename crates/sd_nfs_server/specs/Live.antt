@@ -1,6 +1,6 @@
 -- Live files by their numbers.
 use Rattle.std.specs.Prelude.{◌≡◌, ◌≢◌, ℕ, ◌⊎◌, ◌≤◌, List, length, Option, Some, None, IsSome}
-use Rattle.sd_link.specs.Files.{Exported, Place, handle}
+use Rattle.sd_services.specs.Files.{Exported, Place, handle}
 
 -- a file of the root export by its number, or the swap export's one file
 abbrev pub IsLive : Exported → Place → Type 0

@@ -1,10 +1,10 @@
 -- Putting nodes in byte order of their paths.
 use Rattle.std.specs.Prelude.{◌≡◌, ◌≢◌, ℕ, ◌+◌, ◌<◌, ◌≤◌, ◌⊎◌, List, length, slice_index, slice_index_or, insert, take}
 use Rattle.std.specs.List.{AllPairs}
-use Rattle.sd_link.specs.declared.config.RootItem.{RootItem}
-use Rattle.sd_link.specs.declared.node.Node.{Node}
-use Rattle.sd_link.specs.Config.{item_path}
-use Rattle.sd_link.specs.Files.{IsBefore, directory_at, node_of}
+use Rattle.sd_config.specs.declared.config.RootItem.{RootItem}
+use Rattle.sd_services.specs.declared.node.Node.{Node}
+use Rattle.sd_config.specs.Config.{item_path}
+use Rattle.sd_services.specs.Files.{IsBefore, directory_at, node_of}
 
 -- in byte order of their paths, each once
 abbrev pub Ascends : List Node → Type 0

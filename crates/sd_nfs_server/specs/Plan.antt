@@ -7,10 +7,10 @@ use Rattle.sd_nfs_msg.specs.declared.message.NfsArgs.TheVariants as asks
 use Rattle.sd_nfs_msg.specs.declared.message.NfsResult.{NfsResult}
 use Rattle.sd_nfs_msg.specs.declared.message.NfsResult.TheVariants as results
 use Rattle.sd_nfs_msg.specs.Layout.{ArgsFit}
-use Rattle.sd_link.specs.World.{Change}
-use Rattle.sd_link.specs.NfsReply.{swap_file}
-use Rattle.sd_link.specs.Files.{Exported, Place, named_by}
-use Rattle.sd_link.specs.Decisions.{on_root, on_swap, node_at, refused, err_stale, err_acces, err_nospc, swap_attributes, first_handle}
+use Rattle.sd_services.specs.Part.{Change}
+use Rattle.sd_services.specs.NfsReply.{swap_file}
+use Rattle.sd_services.specs.Files.{Exported, Place, named_by}
+use Rattle.sd_services.specs.Decisions.{on_root, on_swap, node_at, refused, err_stale, err_acces, err_nospc, swap_attributes, first_handle}
 use Rattle.sd_nfs_server.specs.declared.plan.NfsPlan.{NfsPlan}
 use Rattle.sd_nfs_server.specs.declared.plan.NfsPlan.TheVariants as plans
 

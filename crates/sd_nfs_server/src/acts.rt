@@ -7,7 +7,7 @@ ghost use Rattle.sd_outside.specs.DiskPlan.{Both, Makes};
 ghost use Rattle.sd_stable_disk.specs.Image.{written};
 ghost use Rattle.sd_stable_disk.specs.Files.{files, may_hold, held_since, IsEither, OnlyHolds, HasFault};
 ghost use Rattle.sd_stable_disk.specs.declared.errors.OpenError.TheVariants.{DiskFault as OpenFault, NoMemory as NoRoom};
-ghost use Rattle.sd_link.specs.NfsReply.{swap_file, file_in};
+ghost use Rattle.sd_services.specs.NfsReply.{swap_file, file_in};
 ghost use Rattle.sd_nfs_server.specs.Acts.{acted_of, is_done, IsFault, HasReason};
 
 use crate::status::IO;

@@ -1,11 +1,11 @@
 //! The attributes of files.
 
 ghost use Rattle.std.specs.Prelude.{◌≡◌, ◌≤◌, ◌+◌};
-ghost use Rattle.sd_link.specs.Decisions.{attributes, root_attributes, swap_attributes};
+ghost use Rattle.sd_services.specs.Decisions.{attributes, root_attributes, swap_attributes};
 ghost use Rattle.sd_nfs_server.specs.Fits.{StandingFits};
 
-use sd_link::Standing;
 use sd_nfs_msg::Fattr;
+use sd_services::Standing;
 
 /// A row of the table of attributes.
 struct Row {

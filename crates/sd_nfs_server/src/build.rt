@@ -1,13 +1,14 @@
 //! The files of the root export, from the lines of the configuration.
 
 ghost use Rattle.std.specs.Prelude.{◌≡◌, ◌<◌, ◌≤◌, ◌↔◌, IsTrue, IfOk, OnOk, length, insert};
-ghost use Rattle.sd_link.specs.Config.{AreRootItems, item_path};
-ghost use Rattle.sd_link.specs.Files.{AreNumbered, IsBefore, standing_of};
+ghost use Rattle.sd_config.specs.Config.{AreRootItems, item_path};
+ghost use Rattle.sd_services.specs.Files.{AreNumbered, IsBefore, standing_of};
 ghost use Rattle.sd_nfs_server.specs.Fits.{NodesFit};
 ghost use Rattle.sd_nfs_server.specs.Placing.{Ascends, IsPlaceOf, HasPathAt, Placed, PlacedDirectories, PlacedItem, LookedAt};
 
-use sd_link::{Node, RootItem, Standing};
+use sd_config::RootItem;
 use sd_outside::{ByteList, NoMemory};
+use sd_services::{Node, Standing};
 use std::alloc::Global;
 use std::cmp::Ordering;
 

@@ -2,8 +2,8 @@
 
 ghost use Rattle.std.specs.Prelude.{◌≡◌, ℕ, List, IfOk, IfSome, MatchOption, Some, None};
 ghost use Rattle.sd_nfs_msg.specs.Layout.{ResultFits};
-ghost use Rattle.sd_link.specs.Decisions.{first_handle, nfs_result};
-ghost use Rattle.sd_link.specs.NfsReply.{nfs_change, uses_swap};
+ghost use Rattle.sd_services.specs.Decisions.{first_handle, nfs_result};
+ghost use Rattle.sd_services.specs.NfsReply.{nfs_change, uses_swap};
 ghost use Rattle.sd_nfs_server.specs.Fits.{FilesFit};
 ghost use Rattle.sd_nfs_server.specs.Live.{IsLive};
 ghost use Rattle.sd_nfs_server.specs.Plan.{decision_of, decision, place_decision, IsSwapContent, answer_of, change_of, bytes_of, is_swap, HasRange};

@@ -1,16 +1,16 @@
 //! The entries of a directory (RFC 1094, 2.2.17).
 
 ghost use Rattle.std.specs.Prelude.{◌≡◌, ◌≤◌, ◌<◌, ◌+◌, ◌*◌, ◌/◌, IfOk, OnOk, length};
-ghost use Rattle.sd_link.specs.Decisions.{readdir};
-ghost use Rattle.sd_link.specs.Names.{child_name, listed, entries};
+ghost use Rattle.sd_services.specs.Decisions.{readdir};
+ghost use Rattle.sd_services.specs.Names.{child_name, listed, entries};
 ghost use Rattle.sd_nfs_server.specs.Fits.{NodesFit};
 ghost use Rattle.sd_nfs_server.specs.Steps.{Offered, OfferedNode, IsListing};
 
 use crate::names::{child_name, parent};
 use crate::status::NOTDIR;
-use sd_link::{Node, Standing};
 use sd_nfs_msg::{DirEntry, EntryList, NfsResult};
 use sd_outside::{ByteList, NoMemory};
+use sd_services::{Node, Standing};
 use std::alloc::Global;
 
 /// The entries that a reply takes: those after a cookie, until the first for which there is no room.

@@ -1,7 +1,7 @@
 //! The rows of the root export (RFC 1094, 2.2).
 
 ghost use Rattle.std.specs.Prelude.{◌≡◌, ◌≤◌, IfOk, length, take, drop, min, Some};
-ghost use Rattle.sd_link.specs.Decisions.{on_root, lookup, looks_up, readlink, read, node_at, blocks_of, standing_blocks, all_blocks, statfs};
+ghost use Rattle.sd_services.specs.Decisions.{on_root, lookup, looks_up, readlink, read, node_at, blocks_of, standing_blocks, all_blocks, statfs};
 ghost use Rattle.sd_nfs_server.specs.Fits.{StandingFits, NodesFit};
 
 use crate::attributes::root_attributes;
@@ -9,9 +9,9 @@ use crate::handle::fhandle_of;
 use crate::names::called;
 use crate::readdir::readdir;
 use crate::status::{ISDIR, NOENT, NOTDIR, NXIO, ROFS};
-use sd_link::{Node, Standing};
 use sd_nfs_msg::{NfsArgs, NfsResult};
 use sd_outside::{ByteList, NoMemory};
+use sd_services::{Node, Standing};
 use std::alloc::Global;
 
 /// What a LOOKUP of a live file gives (2.2.5).

@@ -2,7 +2,7 @@
 
 ghost use Rattle.std.specs.Prelude.{◌≡◌, ◌≤◌, IfOk, replicate, if◌then◌else◌};
 ghost use Rattle.sd_nfs_msg.specs.declared.message.NfsResult.TheVariants as results;
-ghost use Rattle.sd_link.specs.Decisions.{changes_nothing, swap_attributes, blocks_of, statfs};
+ghost use Rattle.sd_services.specs.Decisions.{changes_nothing, swap_attributes, blocks_of, statfs};
 ghost use Rattle.sd_nfs_server.specs.Plan.{decision_of, swap_refused, swap_done, swap_reads, swap_writes, swap_decision};
 
 use crate::attributes::swap_attributes;

@@ -2,15 +2,16 @@
 
 ghost use Rattle.std.specs.Prelude.{◌≡◌, ◌≢◌, ◌≤◌, ◌<◌, ◌^◌, IfOk, IfSome, IsTrue, ◌↔◌, None};
 ghost use Rattle.std.specs.List.{Contains};
-ghost use Rattle.sd_link.specs.Config.{IsConfig};
-ghost use Rattle.sd_link.specs.Files.{Exported, Exports, Place, live, handle, named_by, Names, exported};
+ghost use Rattle.sd_config.specs.Config.{IsConfig};
+ghost use Rattle.sd_services.specs.Files.{Exported, Exports, Place, live, handle, named_by, Names, exported};
 ghost use Rattle.sd_nfs_server.specs.Live.{IsLive, Finds};
 ghost use Rattle.sd_nfs_server.specs.Fits.{FilesFit, NodesFit};
 
 use crate::build::nodes_of;
 use crate::handle::{fhandle_of, numbers};
-use sd_link::{Config, Node};
+use sd_config::Config;
 use sd_outside::{FHandle, NoMemory};
+use sd_services::Node;
 use std::alloc::Global;
 use std::marker::Model;
 
@@ -23,7 +24,7 @@ pub struct Tree {
 }
 
 impl Model for Tree {
-    ghost use Rattle.sd_link.specs.Files.{Exported};
+    ghost use Rattle.sd_services.specs.Files.{Exported};
     ghost use Rattle.sd_nfs_server.specs.Fits.{FilesFit};
 
     ghost Value = { Exported };

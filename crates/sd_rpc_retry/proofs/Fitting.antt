@@ -17,7 +17,7 @@ use Rattle.sd_rpc_retry.specs.declared.calling.Answer.TheVariants as answer
 use Rattle.sd_rpc_retry.specs.declared.calling.Caller.{Caller}
 use Rattle.sd_rpc_retry.specs.declared.asking.Asked.{Asked}
 use Rattle.sd_rpc_retry.specs.declared.asking.Asked.TheVariants as asked
-use Rattle.sd_link.specs.RpcCalls.{value_read, spelled}
+use Rattle.sd_services.specs.RpcCalls.{value_read, spelled}
 use Rattle.sd_rpc_retry.specs.Calling.{Said, Verdict, home, is_at, comes_from, is_relayed, and_then, message_says, whoami_in, getfile_in, bootparams_results, bootparams_says, answer_in, verdict_of, verdict_in}
 use Rattle.sd_rpc_retry.specs.Calls.{IsTold, IsAnswerTo, IsAnsweredBy}
 use Rattle.sd_rpc_retry.proofs.MatchLaw.{only_if, some_is, follows, mapped}

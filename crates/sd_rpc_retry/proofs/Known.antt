@@ -12,7 +12,7 @@ use Rattle.sd_rpc_msg.specs.declared.message.Message.{Message}
 use Rattle.sd_rpc_msg.specs.Layout.{message, message_value}
 use Rattle.sd_rpc_msg.specs.Laws.{IsMessage}
 use Rattle.sd_rpc_msg.proofs.Told.{one_spelling_of}
-use Rattle.sd_link.specs.RpcCalls.{value_read, spelled}
+use Rattle.sd_services.specs.RpcCalls.{value_read, spelled}
 use Rattle.sd_rpc_retry.specs.Reading.{IsKnown}
 
 pub spelled_some : (K : Kind whole) (bs : List ℕ) (x : Value) → Reads whole K bs x → spelled K bs ≡ Some x

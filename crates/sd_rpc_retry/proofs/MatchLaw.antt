@@ -27,8 +27,8 @@ use Rattle.sd_rpc_retry.specs.declared.calling.Ask.{Ask}
 use Rattle.sd_rpc_retry.specs.declared.calling.Ask.TheVariants as ask
 use Rattle.sd_rpc_retry.specs.declared.calling.Answer.{Answer}
 use Rattle.sd_rpc_retry.specs.declared.calling.Answer.TheVariants as answer
-use Rattle.sd_link.specs.RpcCalls.{spelled}
-use Rattle.sd_link.specs.RpcReply.{pmap_port, address_in}
+use Rattle.sd_services.specs.RpcCalls.{spelled}
+use Rattle.sd_services.specs.RpcReply.{pmap_port, address_in}
 use Rattle.sd_rpc_retry.specs.Calling.{Said, Verdict, is_everyone, is_relayed, comes_from, is_at, and_then, port_in, whoami_in, getfile_in, relayed_in, bootparams_says, answer_in, verdict_of, verdict_in, reply_says, message_says}
 use Rattle.sd_rpc_retry.specs.Matches.{TellsResult, Tells, Decides, MayReply, Matches, CarriesBytes, VerdictIsMatch}
 use Rattle.sd_rpc_retry.proofs.Known.{spelled_some}

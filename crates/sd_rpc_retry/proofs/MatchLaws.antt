@@ -15,8 +15,8 @@ use Rattle.sd_portmap.specs.declared.message.PmapResult.TheVariants as pmap
 use Rattle.sd_bootparams.specs.Layout as bootparams
 use Rattle.sd_bootparams.specs.Layout.{ip, ip_value}
 use Rattle.sd_bootparams.specs.declared.message.BpResult.TheVariants as bp
-use Rattle.sd_link.specs.RpcCalls.{spelled, value_read}
-use Rattle.sd_link.specs.RpcReply.{address_in}
+use Rattle.sd_services.specs.RpcCalls.{spelled, value_read}
+use Rattle.sd_services.specs.RpcReply.{address_in}
 
 -- ---- what is spelled has the form of a value of its kind
 

@@ -2,9 +2,9 @@
 use Rattle.std.proofs.Common.{◌≡◌, List, [], ◌∷◌, ◌++◌, sym, ◌∙◌, ap, subst, append_assoc}
 use Rattle.std.proofs.lemmas.List.{append-nil}
 use Rattle.sd_outside.specs.declared.packet.Packet.{Packet}
-use Rattle.sd_link.specs.declared.config.Config.{Config}
-use Rattle.sd_link.specs.declared.events.Events.{Events}
-use Rattle.sd_link.specs.Events.{Fates, fates_of}
+use Rattle.sd_config.specs.declared.config.Config.{Config}
+use Rattle.sd_config.specs.declared.events.Events.{Events}
+use Rattle.sd_config.specs.Events.{Fates, fates_of}
 use Rattle.sd_link.specs.World.{World}
 use Rattle.sd_link.specs.Steps.{Step, Tick, Send, Serve, Data, End, Get, Entry, History, after, entries_of, run, record_of, world_of, whole_record}
 use Rattle.sd_link.specs.Parts.{sends_in}

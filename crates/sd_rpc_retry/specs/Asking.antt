@@ -3,7 +3,7 @@ use Rattle.std.specs.Prelude.{◌≡◌, ℕ, ◌<◌, ◌≤◌, List, [], ◌�
 use Rattle.std.specs.List.{flat_map}
 use Rattle.sd_outside.specs.declared.packet.Packet.{Packet}
 use Rattle.sd_link.specs.Steps.{Step, Send, History, world_of, whole_record, run}
-use Rattle.sd_link.specs.Events.{fates_of}
+use Rattle.sd_config.specs.Events.{fates_of}
 use Rattle.sd_link.specs.Parts.{sends_in, got_in, ticks_in}
 use Rattle.sd_link.specs.Lawful.{SendsSettled}
 use Rattle.sd_link.specs.Link.{NothingWaits, IsSettledBy}

@@ -16,8 +16,8 @@ use Rattle.sd_portmap.specs.Layout as portmap
 use Rattle.sd_bootparams.specs.declared.message.BpArgs.{BpArgs}
 use Rattle.sd_bootparams.specs.declared.message.BpArgs.TheVariants as bp
 use Rattle.sd_bootparams.specs.Layout as bootparams
-use Rattle.sd_link.specs.RpcCalls.{spelled, auth_null}
-use Rattle.sd_link.specs.RpcReply.{pmap_port, address_in}
+use Rattle.sd_services.specs.RpcCalls.{spelled, auth_null}
+use Rattle.sd_services.specs.RpcReply.{pmap_port, address_in}
 use Rattle.sd_link.specs.Tries.{Hearing}
 use Rattle.sd_rpc_retry.specs.declared.calling.Ask.{Ask}
 use Rattle.sd_rpc_retry.specs.declared.calling.Ask.TheVariants as ask

@@ -2,7 +2,7 @@
 use Rattle.std.specs.Prelude.{◌≡◌, ◌⊎◌, ℕ, zero, suc, ◌+◌, ◌*◌, ◌-◌, ◌^◌, ◌<◌, ◌≤◌, min, List, [], ◌∷◌, replicate, Result, Ok, Err}
 use Rattle.sd_outside.specs.declared.errors.NoMemory.{NoMemory}
 use Rattle.sd_outside.specs.declared.packet.Packet.{Packet}
-use Rattle.sd_link.specs.declared.config.Config.{Config}
+use Rattle.sd_config.specs.declared.config.Config.{Config}
 use Rattle.sd_link.specs.World.{World}
 use Rattle.sd_link.specs.Steps.{Step, Tick, Send, Serve, Data, End, Get, History, after, world_of}
 use Rattle.sd_link.specs.Parts.{sends_in}

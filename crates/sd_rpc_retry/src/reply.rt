@@ -6,7 +6,7 @@ ghost use Rattle.sd_rpc_msg.specs.Layout.{message, message_value, outcome_value}
 ghost use Rattle.sd_rpc_msg.specs.Laws.{IsMessage, IsOutcome};
 ghost use Rattle.sd_portmap.specs.Layout as portmap;
 ghost use Rattle.sd_bootparams.specs.Layout as bootparams;
-ghost use Rattle.sd_link.specs.RpcCalls.{spelled};
+ghost use Rattle.sd_services.specs.RpcCalls.{spelled};
 ghost use Rattle.sd_rpc_retry.specs.Calling.{port_in, whoami_in, getfile_in, reply_says, message_says, and_then, verdict_of, answer_in, bootparams_says, comes_from, is_at};
 ghost use Rattle.sd_rpc_retry.specs.Reading.{IsKnown};
 

@@ -3,7 +3,7 @@ ghost use Rattle.std.specs.Prelude.{◌≡◌, ◌≤◌, ◌<◌, ◌^◌, leng
 ghost use Rattle.sd_rpc_msg.specs.Layout.{AuthFits};
 ghost use Rattle.sd_portmap.specs.declared.message.PmapArgs.TheVariants as pmap;
 ghost use Rattle.sd_bootparams.specs.Layout as bootparams;
-ghost use Rattle.sd_link.specs.RpcCalls.{auth_null};
+ghost use Rattle.sd_services.specs.RpcCalls.{auth_null};
 ghost use Rattle.sd_rpc_retry.specs.Calling.{is_everyone, is_relayed, call_of, pmap_call, bootparams_call, call_for, AskFits, request, home};
 
 use crate::calling::{Ask, Caller};

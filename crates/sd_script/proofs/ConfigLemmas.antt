@@ -5,12 +5,12 @@ use Rattle.std.specs.List.{AllPairs, sum_by}
 use Rattle.std.proofs.lemmas.List.Elements.{All-nil, All-cons, All-append}
 use Rattle.std.proofs.lemmas.List.Sums.{AllPass-from_list_all, sum_by_push}
 use Rattle.std.proofs.lemmas.List.Quantifiers.{all_pairs_push}
-use Rattle.sd_link.specs.declared.config.BootFile.{BootFile}
-use Rattle.sd_link.specs.declared.config.RootItem.{RootItem}
-use Rattle.sd_link.specs.declared.config.SwapLine.{SwapLine}
-use Rattle.sd_link.specs.declared.config.Config.{Config}
+use Rattle.sd_config.specs.declared.config.BootFile.{BootFile}
+use Rattle.sd_config.specs.declared.config.RootItem.{RootItem}
+use Rattle.sd_config.specs.declared.config.SwapLine.{SwapLine}
+use Rattle.sd_config.specs.declared.config.Config.{Config}
 use Rattle.sd_text.specs.Texts.{Text}
-use Rattle.sd_link.specs.Config.{IsName, IsPath, IsComponent, is_visible, AreBootFiles, IsBootFile, AreRootItems, IsRootItem, AreApart, IsSwap, item_path, item_size}
+use Rattle.sd_config.specs.Config.{IsName, IsPath, IsComponent, is_visible, AreBootFiles, IsBootFile, AreRootItems, IsRootItem, AreApart, IsSwap, item_path, item_size}
 use Rattle.sd_script.specs.Lines.{MayAddBootFile, MayAddItem}
 use Rattle.sd_script.specs.Grammar.{kernel_or_usual}
 

@@ -3,7 +3,7 @@ use Rattle.std.proofs.Common.{◌≡◌, ◌≢◌, ℕ, Bool, true, false, not,
 use Rattle.std.specs.List.{All, list_any}
 use Rattle.std.proofs.lemmas.List.Elements.{All-nil, All-cons, All-head, All-tail}
 use Rattle.std.proofs.lemmas.Bool.{cases_Bool, false≢true, eqb-true, eq-eqb}
-use Rattle.sd_link.specs.declared.events.Fate.{Fate}
+use Rattle.sd_config.specs.declared.events.Fate.{Fate}
 
 -- whether a fate has the id
 abbrev pub has_id : ℕ → List Fate → Bool

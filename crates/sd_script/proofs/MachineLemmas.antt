@@ -1,7 +1,7 @@
 -- A machine's three fields.
 use Rattle.std.proofs.Common.{◌≡◌, sym, ◌∙◌}
 use Rattle.sd_text.specs.Texts.{Text}
-use Rattle.sd_link.specs.declared.config.Machine.{Machine}
+use Rattle.sd_config.specs.declared.config.Machine.{Machine}
 use Rattle.sd_script.specs.Lines.{IsMachine}
 use Rattle.sd_text.proofs.MacLemmas.{one_mac, one_ip}
 

@@ -4,7 +4,7 @@ use Rattle.sd_bootparams.specs.declared.draft.Draft as file
 use Rattle.sd_bootparams.specs.File.{adding}
 use Rattle.sd_bootparams.specs.LineByLine.{fed, line_parts, after_line}
 use Rattle.sd_text.specs.Texts.{Text, IsIp}
-use Rattle.sd_link.specs.Config.{boot_file_limit}
+use Rattle.sd_config.specs.Config.{boot_file_limit}
 use Rattle.sd_script.specs.declared.draft.Draft.{Draft}
 use Rattle.sd_text.specs.Runs.{IsRunsWithin}
 use Rattle.sd_script.specs.Lines.{with_params, ArchLine, HostLine, ParamsLine, IsRest, spaced, TftpLine, RootLine, FileLine, LinkLine, KernelLine, SwapFileLine}

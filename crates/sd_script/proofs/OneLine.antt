@@ -6,8 +6,8 @@ use Rattle.std.specs.Str.{bytes_eq}
 use Rattle.sd_script.specs.declared.draft.Draft.{Draft}
 use Rattle.sd_script.specs.declared.draft.Word.{Word}
 use Rattle.sd_script.specs.declared.draft.Word.TheVariants as words
-use Rattle.sd_script.specs.declared.script.Command.{Command}
-use Rattle.sd_script.specs.declared.script.Command.TheVariants as commands
+use Rattle.sd_config.specs.declared.command.Command.{Command}
+use Rattle.sd_config.specs.declared.command.Command.TheVariants as commands
 use Rattle.sd_text.specs.Texts.{Text, fields, IsNumber, IsIp}
 use Rattle.sd_script.specs.Lines.{IsMachine, LifeLine, TriesLine, WaitLine, PagesLine, ServerLine, ClientLine, IsDelays, FateLine, AddsCommand, WaitCommandLine}
 use Rattle.sd_script.specs.Grammar.{spelling, WordLine, IsSkipped, IsWordLine, IsLine}

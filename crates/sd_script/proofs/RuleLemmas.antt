@@ -2,29 +2,30 @@
 use Rattle.std.proofs.Common.{◌≡◌, ℕ, ◌+◌, ◌-◌, ◌<◌, ◌≤◌, ◌^◌, List, [], ◌∷◌, ◌++◌, Some, length, refl, sym, ◌∙◌, ap, subst, inl, inr, arith, length-append}
 use Rattle.std.specs.List.{All, AllByRecursion, AllZip}
 use Rattle.std.proofs.lemmas.List.Elements.{All-nil, All-cons, All-append}
-use Rattle.sd_link.specs.declared.config.Config.{Config}
-use Rattle.sd_link.specs.declared.config.Machine.{Machine}
-use Rattle.sd_link.specs.declared.config.BootFile.{BootFile}
-use Rattle.sd_link.specs.declared.config.RootItem.{RootItem}
-use Rattle.sd_link.specs.declared.config.RootItem.TheVariants as items
-use Rattle.sd_link.specs.declared.config.SwapLine.{SwapLine}
-use Rattle.sd_link.specs.declared.events.Fate.{Fate}
+use Rattle.sd_config.specs.declared.config.Config.{Config}
+use Rattle.sd_config.specs.declared.config.Machine.{Machine}
+use Rattle.sd_config.specs.declared.config.BootFile.{BootFile}
+use Rattle.sd_config.specs.declared.config.RootItem.{RootItem}
+use Rattle.sd_config.specs.declared.config.RootItem.TheVariants as items
+use Rattle.sd_config.specs.declared.config.SwapLine.{SwapLine}
+use Rattle.sd_config.specs.declared.events.Fate.{Fate}
 use Rattle.sd_text.specs.Texts.{Text, IsNumber}
-use Rattle.sd_link.specs.Config as rules
-use Rattle.sd_link.specs.Config.{IsConfig, IsWithin, bytes_of}
-use Rattle.sd_link.specs.Events.{IsFate}
-use Rattle.sd_script.specs.declared.script.Command.{Command}
-use Rattle.sd_script.specs.declared.script.Command.TheVariants as commands
+use Rattle.sd_config.specs.Config as rules
+use Rattle.sd_config.specs.Config.{IsConfig, IsWithin, bytes_of}
+use Rattle.sd_config.specs.Events.{IsFate}
+use Rattle.sd_config.specs.declared.command.Command.{Command}
+use Rattle.sd_config.specs.declared.command.Command.TheVariants as commands
 use Rattle.sd_script.specs.declared.script.Script.{Script}
 use Rattle.sd_script.specs.declared.draft.Section.{Section}
 use Rattle.sd_script.specs.declared.draft.Section.TheVariants as sections
 use Rattle.sd_script.specs.declared.draft.Draft.{Draft}
 use Rattle.sd_script.specs.declared.draft.Word.{Word}
 use Rattle.sd_script.specs.declared.draft.Word.TheVariants as words
-use Rattle.sd_script.specs.Limits.{command_limit}
+use Rattle.sd_config.specs.Commands.{command_limit}
 use Rattle.sd_script.specs.Lines.{IsMachine, LifeLine, TriesLine, WaitLine, PagesLine, ServerLine, ClientLine, ArchLine, HostLine, ParamsLine, TftpLine, RootLine, FileLine, LinkLine, KernelLine, SwapFileLine, HasRoom, MayAddHost, with_host, with_params, MayAddBootFile, MayAddItem, MayBeEvent, MayBeCommand, IsDelays, FateLine, AddsCommand, Differ, with_config, with_boot_file, with_item, with_fate, with_command}
 use Rattle.sd_script.specs.Grammar.{spelling, WordLine, IsLine, Leads, without_feed, blank, kernel_or_usual, script_of, IsScript}
-use Rattle.sd_script.specs.Rules.{IsCommand, KeepsRules}
+use Rattle.sd_script.specs.Rules.{KeepsRules}
+use Rattle.sd_config.specs.Commands.{IsCommand}
 use Rattle.sd_script.proofs.ParamsLemmas.{OneLine, parts_one, rest_one_line, before_one, no_hosts_are, one_more_host, ParamsSoFar, no_params, one_more_line, params_are}
 use Rattle.sd_script.proofs.ConfigLemmas.{KeepsLines, size_of, no_lines, usual_or_named, sum_with_boot_file, sum_with_item, arch_lined, tftp_lined, root_lined, item_lined, kernel_lined, swap_lined}
 

@@ -1,12 +1,12 @@
 -- The answer lines of a transcript.
 use Rattle.std.specs.Prelude.{◌∷◌, ◌++◌, [], codes}
 use Rattle.std.specs.Fmt.{decimal}
-use Rattle.sd_link.specs.declared.link.Stage.{Stage}
-use Rattle.sd_link.specs.declared.link.Stage.TheVariants.{Rarp, Tftp, Whoami, Getfile, Getport, Mnt, Wait}
+use Rattle.sd_config.specs.declared.stage.Stage.{Stage}
+use Rattle.sd_config.specs.declared.stage.Stage.TheVariants.{Rarp, Tftp, Whoami, Getfile, Getport, Mnt, Wait}
 use Rattle.sd_text.specs.Texts.{Text, ip_text}
 use Rattle.sd_text.specs.Runs.{runs_text}
-use Rattle.sd_script.specs.declared.told.Told.{Told}
-use Rattle.sd_script.specs.declared.told.Told.TheVariants.{AddrOk, AddrTimeout, AddrFlood, AddrLinkFault, BootUnbuilt, BootTimeout, BootFlood, BootDenied, BootRefused, BootNoPort, BootTooLarge, BootLinkFault, WaitOk, WaitFlood, WaitLinkFault}
+use Rattle.sd_config.specs.declared.told.Told.{Told}
+use Rattle.sd_config.specs.declared.told.Told.TheVariants.{AddrOk, AddrTimeout, AddrFlood, AddrLinkFault, BootUnbuilt, BootTimeout, BootFlood, BootDenied, BootRefused, BootNoPort, BootTooLarge, BootLinkFault, WaitOk, WaitFlood, WaitLinkFault}
 
 -- the word for a step
 abbrev pub stage_text : Stage → Text

@@ -2,8 +2,8 @@
 use Rattle.std.specs.Prelude.{◌≡◌, ℕ, ◌+◌, ◌<◌, ◌≤◌, ◌==◌, List, [], ◌∷◌, ◌++◌, length, codes, None, ◌⊎◌, if◌then◌else◌}
 use Rattle.std.specs.List.{onto_first, before_first, concat}
 use Rattle.sd_bootparams.specs.LineByLine as file
-use Rattle.sd_link.specs.declared.config.Machine.{Machine}
-use Rattle.sd_link.specs.declared.config.Config.{Config}
+use Rattle.sd_config.specs.declared.config.Machine.{Machine}
+use Rattle.sd_config.specs.declared.config.Config.{Config}
 use Rattle.sd_script.specs.declared.draft.Section.{Section}
 use Rattle.sd_script.specs.declared.draft.Section.TheVariants as sections
 use Rattle.sd_script.specs.declared.draft.Word.{Word}

@@ -3,7 +3,7 @@ use Rattle.std.specs.Prelude.{◌≡◌, ℕ, ◌==◌, List}
 use Rattle.std.specs.List.{list_any}
 use Rattle.std.specs.Ordering.{nat_cmp}
 use Rattle.std.specs.BTreeSet.{BTreeSet, contains}
-use Rattle.sd_link.specs.declared.events.Fate.{Fate}
+use Rattle.sd_config.specs.declared.events.Fate.{Fate}
 
 -- the set has an id exactly where a fate has it
 abbrev pub AreIds : BTreeSet ℕ → List Fate → Type 0

@@ -3,7 +3,7 @@ use Rattle.std.specs.Prelude.{◌≡◌, ℕ, ◌-◌, ◌<◌, ◌≤◌, ◌+�
 use Rattle.sd_text.specs.declared.error.LineError.{LineError}
 use Rattle.sd_script.specs.declared.draft.Draft.{Draft}
 use Rattle.sd_text.specs.Texts.{Text, IsNumber}
-use Rattle.sd_link.specs.declared.config.Machine.{Machine}
+use Rattle.sd_config.specs.declared.config.Machine.{Machine}
 use Rattle.sd_script.specs.Lines.{IsMachine, IsRest}
 use Rattle.sd_text.specs.Answers.{OnOutside}
 use Rattle.sd_script.specs.declared.error.ScriptError.{ScriptError}

@@ -17,10 +17,6 @@ host_limit = 16
 abbrev pub params_limit : ℕ
 params_limit = 256
 
--- the most commands of a script
-abbrev pub command_limit : ℕ
-command_limit = 16384
-
 -- the most fates of a script
 abbrev pub fate_limit : ℕ
 fate_limit = 65536

@@ -4,22 +4,23 @@ use Rattle.std.specs.List.{All, AllZip}
 use Rattle.sd_bootparams.specs.declared.book.Host.{Host}
 use Rattle.sd_bootparams.specs.declared.draft.Draft as file
 use Rattle.sd_bootparams.specs.LineByLine.{fed, line_parts, after_line, Says}
-use Rattle.sd_link.specs.declared.config.Config.{Config}
-use Rattle.sd_link.specs.declared.config.Machine.{Machine}
-use Rattle.sd_link.specs.declared.config.BootFile.{BootFile}
-use Rattle.sd_link.specs.declared.config.RootItem.{RootItem}
-use Rattle.sd_link.specs.declared.config.RootItem.TheVariants.{File, Symlink}
-use Rattle.sd_link.specs.declared.config.SwapLine.{SwapLine}
-use Rattle.sd_link.specs.declared.events.Fate.{Fate}
-use Rattle.sd_script.specs.declared.script.Command.{Command}
-use Rattle.sd_script.specs.declared.script.Command.TheVariants as commands
+use Rattle.sd_config.specs.declared.config.Config.{Config}
+use Rattle.sd_config.specs.declared.config.Machine.{Machine}
+use Rattle.sd_config.specs.declared.config.BootFile.{BootFile}
+use Rattle.sd_config.specs.declared.config.RootItem.{RootItem}
+use Rattle.sd_config.specs.declared.config.RootItem.TheVariants.{File, Symlink}
+use Rattle.sd_config.specs.declared.config.SwapLine.{SwapLine}
+use Rattle.sd_config.specs.declared.events.Fate.{Fate}
+use Rattle.sd_config.specs.declared.command.Command.{Command}
+use Rattle.sd_config.specs.declared.command.Command.TheVariants as commands
 use Rattle.sd_script.specs.declared.draft.Section.{Section}
 use Rattle.sd_script.specs.declared.draft.Section.TheVariants as sections
 use Rattle.sd_script.specs.declared.draft.Draft.{Draft}
 use Rattle.sd_text.specs.Texts.{Text, IsNumber, IsMac, IsIp}
-use Rattle.sd_link.specs.Config.{IsName, boot_file_limit, IsPath, IsTarget, AreApart, item_path, item_size}
+use Rattle.sd_config.specs.Config.{IsName, boot_file_limit, IsPath, IsTarget, AreApart, item_path, item_size}
 use Rattle.sd_text.specs.Runs.{IsRunsWithin}
-use Rattle.sd_script.specs.Limits.{all_files_limit, host_limit, params_limit, command_limit, fate_limit}
+use Rattle.sd_script.specs.Limits.{all_files_limit, host_limit, params_limit, fate_limit}
+use Rattle.sd_config.specs.Commands.{command_limit}
 
 -- The draft with another configuration, event or command, and the section of the next line.
 

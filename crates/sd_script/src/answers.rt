@@ -4,8 +4,7 @@ ghost use Rattle.std.specs.Prelude.{◌≡◌, ◌++◌, codes, OnOk, OnErr};
 ghost use Rattle.std.specs.Fmt.{decimal};
 ghost use Rattle.sd_script.specs.Answers.{answer_text, answer_line, stage_text};
 
-use crate::told::Told;
-use sd_link::Stage;
+use sd_config::{Stage, Told};
 use sd_outside::{ByteList, NoMemory};
 use sd_text::{ip_list, push_number, write_runs};
 use std::alloc::Global;

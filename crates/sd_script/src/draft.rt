@@ -1,8 +1,7 @@
 //! What the lines of a script say so far, and the words with which they begin.
 
 use crate::fates::FateBook;
-use crate::script::CommandList;
-use sd_link::Config;
+use sd_config::{CommandList, Config};
 
 /// Which lines may come next. The first six are the lines of the heading, in their order.
 #[derive(Clone, Copy, Debug, PartialEq, Eq)]

@@ -4,7 +4,7 @@ ghost use Rattle.std.specs.Prelude.{◌≡◌, ◌∷◌, ◌++◌, [], IsTrue, 
 ghost use Rattle.sd_script.specs.Lines.{MayAddFate};
 
 use crate::limits::FATE_LIMIT;
-use sd_link::{Fate, FateList};
+use sd_config::{Fate, FateList};
 use sd_outside::{ListOf, NoMemory};
 use std::alloc::Global;
 use std::collections::BTreeSet;
@@ -19,7 +19,7 @@ pub struct FateBook {
 
 impl Model for FateBook {
     ghost use Rattle.std.specs.Prelude.{List};
-    ghost use Rattle.sd_link.specs.declared.events.Fate.{Fate};
+    ghost use Rattle.sd_config.specs.declared.events.Fate.{Fate};
     ghost use Rattle.sd_script.specs.Ids.{AreIds};
 
     ghost Value = { List Fate };

@@ -23,7 +23,6 @@ mod read;
 mod record;
 mod runs;
 mod script;
-mod told;
 
 pub use answers::write_answer;
 pub use error::{RunsError, ScriptError};
@@ -31,9 +30,9 @@ pub use laws::one_reading;
 pub use read::{body_of, read_script, split_line};
 pub use record::{write_got, write_sent, write_served};
 pub use runs::read_runs;
-pub use script::{Command, CommandList, Script};
+pub use script::Script;
+pub use sd_config::{Command, CommandList, Told};
 pub use sd_text::{PacketLineError, push_number, read_packet_line, write_packet_line, write_runs};
-pub use told::Told;
 
 #[cfg(test)]
 mod tests;

@@ -1,7 +1,7 @@
 //! Names.
 
 ghost use Rattle.std.specs.Prelude.{◌≡◌, IsTrue, ◌↔◌};
-ghost use Rattle.sd_link.specs.Config.{IsName, is_name_byte};
+ghost use Rattle.sd_config.specs.Config.{IsName, is_name_byte};
 
 /// Whether a byte may stand in a name.
 fn may_be_in_name(byte: u8) -> bool

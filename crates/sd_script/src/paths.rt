@@ -2,7 +2,7 @@
 
 ghost use Rattle.std.specs.Prelude.{◌≡◌, ℕ, List, ◌∷◌, IsTrue, ◌↔◌, MatchOption};
 ghost use Rattle.std.specs.List.{All, AllPass};
-ghost use Rattle.sd_link.specs.Config.{IsPath, IsTarget, IsComponent, IsDirectoryOf, AreApart, is_visible};
+ghost use Rattle.sd_config.specs.Config.{IsPath, IsTarget, IsComponent, IsDirectoryOf, AreApart, is_visible};
 
 use sd_text::{Parts, same_text};
 

@@ -6,10 +6,11 @@ use Rattle.std.specs.Prelude.{slice_get}
 use Rattle.std.specs.List.{AllByRecursion}
 use Rattle.std.specs.List.Sorted.{IsNonDecreasingBy}
 use Rattle.sd_outside.specs.declared.packet.Packet.{Packet}
-use Rattle.sd_link.specs.declared.config.Config.{Config}
-use Rattle.sd_link.specs.World.{World, Session, Flying, Sender, Client, Server, start}
-use Rattle.sd_link.specs.Sessions.{session_in, block_packet}
-use Rattle.sd_link.specs.Reply.{out_of}
+use Rattle.sd_config.specs.declared.config.Config.{Config}
+use Rattle.sd_link.specs.World.{World, Flying, Sender, Client, Server, start}
+use Rattle.sd_services.specs.Part.{Session}
+use Rattle.sd_services.specs.Sessions.{session_in, block_packet}
+use Rattle.sd_services.specs.Reply.{out_of}
 use Rattle.sd_link.specs.Steps.{Step, Tick, Send, Serve, Data, End, Get, after, served, resent, run}
 use Rattle.sd_segment.specs.declared.flown.Flown.{Flown}
 use Rattle.sd_segment.specs.Flight.{flying_of}

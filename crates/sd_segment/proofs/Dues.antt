@@ -4,9 +4,9 @@ use Rattle.std.specs.Prelude.{slice_get, IsTrue}
 use Rattle.std.specs.List.{filter, flat_map, enumerate_from, AllByRecursion}
 use Rattle.std.proofs.lemmas.List.{take_more, map-append, append-nil}
 use Rattle.sd_outside.specs.declared.packet.Packet.{Packet}
-use Rattle.sd_link.specs.declared.config.Config.{Config}
-use Rattle.sd_link.specs.declared.events.Fate.{Fate}
-use Rattle.sd_link.specs.Events.{Fates, fate_in}
+use Rattle.sd_config.specs.declared.config.Config.{Config}
+use Rattle.sd_config.specs.declared.events.Fate.{Fate}
+use Rattle.sd_config.specs.Events.{Fates, fate_in}
 use Rattle.sd_link.specs.World.{World, Flying, Sender}
 use Rattle.sd_link.specs.Steps.{IsDeliverable}
 use Rattle.sd_link.specs.Lawful.{due}

@@ -1,9 +1,10 @@
 -- The fates of packets, by their ids.
 use Rattle.std.proofs.Common.{◌≡◌, ℕ, zero, suc, ◌+◌, ◌-◌, ◌<◌, ◌≤◌, Bool, true, false, cond, List, [], ◌∷◌, ◌++◌, length, get_or, drop, ◌==◌, Some, sym, ◌∙◌, ap, arith, eq-eqb}
 use Rattle.std.specs.List.{All, AllByRecursion}
-use Rattle.sd_link.specs.declared.events.Fate.{Fate}
-use Rattle.sd_link.specs.Config.{IsWithin}
-use Rattle.sd_link.specs.Events.{Fates, fate_in, IsFate}
+use Rattle.sd_config.specs.declared.events.Fate.{Fate}
+use Rattle.sd_config.specs.Config.{IsWithin}
+use Rattle.sd_config.specs.Events.{Fates, fate_in, IsFate}
+use Rattle.sd_config.proofs.Lists.{all_recursive}
 use Rattle.sd_segment.specs.declared.flown.Flown.{Flown}
 use Rattle.sd_segment.specs.Flight.{delays_of, AllFated}
 
@@ -42,10 +43,6 @@ AllTimely life delays = AllByRecursion (λ d. (1 ≤ d) × (d < life)) delays
 pub record IsTimely (life : ℕ) (fates : Fates) : Type 0 where
   pub delays : (id : ℕ) → AllTimely life (fates id)
 
-pub all_of : {A : Type 0} (P : A → Type 0) (xs : List A) → All P xs → AllByRecursion P xs
-all_of P [] all = tt
-all_of P (x ∷ xs) all = (all 0 x (omega arith), all_of P xs (λ k d lt. all (suc k) d (omega arith)))
-
 timely_within : (life : ℕ) (delays : List ℕ) → 2 ≤ life → AllByRecursion (IsWithin 1 (life - 1)) delays → AllTimely life delays
 timely_within life [] two all = tt
 timely_within life (d ∷ ds) two all = ((all.0.0, omega (arith, all.0.1)), timely_within life ds two all.1)
@@ -55,8 +52,8 @@ timely_in life [] id two all = ((omega arith, omega arith), tt)
 timely_in life (f ∷ fs) id two all = of (f.id == id) (timely_in life fs id two all.1)
   where
     of : (b : Bool) → AllTimely life (fate_in fs id) → AllTimely life (cond b f.delays (fate_in fs id))
-    of true rest = timely_within life f.delays two (all_of (IsWithin 1 (life - 1)) f.delays all.0.delays)
+    of true rest = timely_within life f.delays two (all_recursive (IsWithin 1 (life - 1)) f.delays all.0.delays)
     of false rest = rest
 
 pub timely : (life : ℕ) (fates : List Fate) → 2 ≤ life → All (IsFate life) fates → IsTimely life (fate_in fates)
-timely life fates two all = record { delays = λ id. timely_in life fates id two (all_of (IsFate life) fates all) }
+timely life fates two all = record { delays = λ id. timely_in life fates id two (all_recursive (IsFate life) fates all) }

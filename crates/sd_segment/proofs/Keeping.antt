@@ -6,10 +6,11 @@ use Rattle.std.specs.List.{AllByRecursion}
 use Rattle.std.proofs.lemmas.Grind.{flat_map-append}
 use Rattle.std.proofs.lemmas.List.{append-nil, drop_at, take_all, map-append, length-map}
 use Rattle.sd_outside.specs.declared.packet.Packet.{Packet}
-use Rattle.sd_link.specs.declared.config.Config.{Config}
-use Rattle.sd_link.specs.World.{World, Session, ServerPart, Flying, Server, start}
-use Rattle.sd_link.specs.Sessions.{session_in, with_session, without_session, is_due, sent_again, block_packet}
-use Rattle.sd_link.specs.Reply.{out_of, next_of}
+use Rattle.sd_config.specs.declared.config.Config.{Config}
+use Rattle.sd_link.specs.World.{World, Flying, Server, start}
+use Rattle.sd_services.specs.Part.{Session, ServerPart}
+use Rattle.sd_services.specs.Sessions.{session_in, with_session, without_session, is_due, sent_again, block_packet}
+use Rattle.sd_services.specs.Reply.{out_of, next_of}
 use Rattle.sd_link.specs.Steps.{Step, Tick, Send, Serve, Data, End, Get, run, after, served, resent, blocks_again, sent_from, replies_to, entries_of, record_of, AllAllowed, Allowed, goes_to_server, goes_to_client}
 use Rattle.sd_link.proofs.Histories.{run-append, allowed-append, record-append}
 use Rattle.sd_segment.specs.declared.flown.Origin.TheVariants as origin

@@ -1,12 +1,3 @@
-pub mod Known
-pub mod Fitting
-pub mod Found
-pub mod Blocks
-pub mod Numbering
-pub mod Firsts
-pub mod Files
-pub mod Datagrams
-pub mod Retained
 pub mod Fates
 pub mod Copies
 pub mod Dues

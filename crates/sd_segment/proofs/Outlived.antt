@@ -2,7 +2,7 @@
 use Rattle.std.proofs.Common.{◌≡◌, ℕ, zero, suc, ◌+◌, ◌≤◌, Bool, true, false, cond, List, [], ◌∷◌, ◌++◌, take, map, ◌==◌, refl, ◌∙◌, ap, arith}
 use Rattle.std.specs.List.{AllWithin, AllByRecursion, filter}
 use Rattle.sd_outside.specs.declared.packet.Packet.{Packet}
-use Rattle.sd_link.specs.Events.{Fates}
+use Rattle.sd_config.specs.Events.{Fates}
 use Rattle.sd_link.specs.World.{Sender}
 use Rattle.sd_link.specs.Lawful.{due}
 use Rattle.sd_segment.specs.declared.flown.Flown.{Flown}

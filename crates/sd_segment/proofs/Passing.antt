@@ -4,11 +4,11 @@ use Rattle.std.specs.Prelude.{slice_get, ◌⊎◌}
 use Rattle.std.specs.List.{AllByRecursion}
 use Rattle.std.proofs.lemmas.List.{append-nil, take-append-le, length-map}
 use Rattle.sd_outside.specs.declared.packet.Packet.{Packet}
-use Rattle.sd_link.specs.declared.events.Fate.{Fate}
-use Rattle.sd_link.specs.Events.{fates_of, fate_in}
+use Rattle.sd_config.specs.declared.events.Fate.{Fate}
+use Rattle.sd_config.specs.Events.{fates_of, fate_in}
 use Rattle.sd_link.specs.World.{World, Sender}
-use Rattle.sd_link.specs.Sessions.{with_session, without_session, sent_again, block_packet}
-use Rattle.sd_link.specs.Reply.{reply}
+use Rattle.sd_services.specs.Sessions.{with_session, without_session, sent_again, block_packet}
+use Rattle.sd_services.specs.Reply.{reply}
 use Rattle.sd_link.specs.Steps.{Step, Tick, Send, Serve, Data, End, Get, Entry, goes_to_server, goes_to_client, whole_record}
 use Rattle.sd_link.specs.Lawful.{served_at, got_at, due_to_server, due_to_client, AllGot, IsFrontOf}
 use Rattle.sd_link.specs.Link.{last_tick, IsBounded, NothingWaits}
@@ -17,10 +17,10 @@ use Rattle.sd_segment.specs.declared.flown.Origin.TheVariants as origin
 use Rattle.sd_segment.specs.declared.flown.Flown.{Flown}
 use Rattle.sd_segment.specs.declared.flown.Kept.{Kept}
 use Rattle.sd_segment.specs.declared.flown.What.TheVariants.{Sent, Served, Again, Ended, Got}
-use Rattle.sd_segment.specs.declared.sessions.Sending.{Sending}
-use Rattle.sd_segment.specs.declared.sessions.Answer.{Answer}
+use Rattle.sd_server.specs.declared.sessions.Sending.{Sending}
+use Rattle.sd_server.specs.declared.sessions.Answer.{Answer}
 use Rattle.sd_segment.specs.Flight.{flying_of, packet_or, replied, reply_of, delays_of, AllFated}
-use Rattle.sd_segment.specs.Server.{ServerView, session_of, packets_in, changed, Answers, IsNext}
+use Rattle.sd_server.specs.Server.{ServerView, session_of, packets_in, changed, Answers, IsNext}
 use Rattle.sd_segment.specs.Kept.{steps_kept, entries_kept, ids_end}
 use Rattle.sd_segment.specs.Segment.{SegmentView, IsSound, Rests, world_at, history_of, text_drained}
 use Rattle.sd_segment.specs.Passing.{Passes}

@@ -5,9 +5,10 @@ use Rattle.std.specs.List.{AllByRecursion}
 use Rattle.std.proofs.lemmas.Grind.{flat_map-append}
 use Rattle.std.proofs.lemmas.List.{append-nil, map-append}
 use Rattle.sd_outside.specs.declared.packet.Packet.{Packet}
-use Rattle.sd_link.specs.declared.config.Config.{Config}
-use Rattle.sd_link.specs.Events.{Fates}
-use Rattle.sd_link.specs.World.{World, ServerPart, Flying, Sender, start}
+use Rattle.sd_config.specs.declared.config.Config.{Config}
+use Rattle.sd_config.specs.Events.{Fates}
+use Rattle.sd_link.specs.World.{World, Flying, Sender, start}
+use Rattle.sd_services.specs.Part.{ServerPart}
 use Rattle.sd_link.specs.Steps.{Step, Tick, Send, Serve, Data, End, Get, Entry, goes_to_server, goes_to_client, record_of}
 use Rattle.sd_link.specs.Steps as steps
 use Rattle.sd_link.specs.Lawful.{InTurn, AllInTurn, served_at, got_at, due, due_to_server, due_to_client, due_sessions, IsNextDue, IsFrontOf}

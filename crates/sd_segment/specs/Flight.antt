@@ -2,9 +2,9 @@
 use Rattle.std.specs.Prelude.{◌≡◌, ℕ, ◌+◌, ◌==◌, Bool, List, [], ◌∷◌, map, filter, Option, Some, None, slice_get, if◌then◌else◌}
 use Rattle.sd_outside.specs.declared.packet.Packet.{Packet}
 use Rattle.sd_outside.specs.declared.packet.Packet.TheVariants.{Frame}
-use Rattle.sd_link.specs.declared.config.Config.{Config}
-use Rattle.sd_link.specs.declared.events.Fate.{Fate}
-use Rattle.sd_link.specs.Events.{fate_in}
+use Rattle.sd_config.specs.declared.config.Config.{Config}
+use Rattle.sd_config.specs.declared.events.Fate.{Fate}
+use Rattle.sd_config.specs.Events.{fate_in}
 use Rattle.sd_link.specs.World.{Flying, Sender, Client, Server}
 use Rattle.sd_link.specs.Steps.{goes_to_server, goes_to_client}
 use Rattle.sd_segment.specs.declared.flown.Origin.{Origin}

@@ -1,5 +1,3 @@
-pub mod Server
-pub mod Services
 pub mod Flight
 pub mod Kept
 pub mod Segment

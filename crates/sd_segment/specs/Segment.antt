@@ -1,11 +1,12 @@
 -- What a segment stands for: the history that it keeps, and what is still to come at its tick.
 use Rattle.std.specs.List.{AllByRecursion}
 use Rattle.std.specs.Prelude.{◌≡◌, ◌⊎◌, ℕ, ◌≤◌, Bool, List, [], ◌++◌, map, length, take, None}
-use Rattle.sd_link.specs.declared.config.Config.{Config}
-use Rattle.sd_link.specs.declared.events.Events.{Events}
-use Rattle.sd_link.specs.Events.{Fates, fates_of, IsEvents}
-use Rattle.sd_link.specs.Config.{IsConfig}
-use Rattle.sd_link.specs.World.{World, ServerPart, start}
+use Rattle.sd_config.specs.declared.config.Config.{Config}
+use Rattle.sd_config.specs.declared.events.Events.{Events}
+use Rattle.sd_config.specs.Events.{Fates, fates_of, IsEvents}
+use Rattle.sd_config.specs.Config.{IsConfig}
+use Rattle.sd_link.specs.World.{World, start}
+use Rattle.sd_services.specs.Part.{ServerPart}
 use Rattle.sd_link.specs.Steps.{History, run, record_of, AllAllowed}
 use Rattle.sd_link.specs.Lawful.{AllInTurn, served_at, got_at, due_to_server, due_to_client, due_sessions}
 use Rattle.sd_link.specs.Link.{last_tick}

@@ -2,7 +2,7 @@
 ghost use Rattle.std.specs.List.{All, AllByRecursion};
 ghost use Rattle.std.specs.List.Sorted.{IsNonDecreasingBy};
 ghost use Rattle.std.specs.Prelude.{◌≡◌, ◌+◌, ◌≤◌, ◌++◌, length, map, take, IfOk, OnOk};
-ghost use Rattle.sd_link.specs.Events.{fate_in, IsFate};
+ghost use Rattle.sd_config.specs.Events.{fate_in, IsFate};
 ghost use Rattle.sd_link.specs.Lawful.{due};
 ghost use Rattle.sd_link.specs.Link.{last_tick};
 ghost use Rattle.sd_segment.specs.Flight.{flying_of, goes_to, delays_of, copies, copies_to, AllFated};
@@ -10,7 +10,7 @@ ghost use Rattle.sd_segment.specs.Flight.{flying_of, goes_to, delays_of, copies,
 use crate::ends::{End, goes_to};
 use crate::flown::Flown;
 use crate::queue::Queue;
-use sd_link::{Config, Fate};
+use sd_config::{Config, Fate};
 use sd_outside::NoMemory;
 use std::alloc::Global;
 

@@ -5,7 +5,7 @@ ghost use Rattle.sd_link.specs.Steps.{goes_to_server, goes_to_client};
 ghost use Rattle.sd_segment.specs.Flight.{sender_of, goes_to};
 
 use crate::flown::{Flown, Origin};
-use sd_link::Config;
+use sd_config::Config;
 use sd_outside::Packet;
 
 const BROADCAST_IP: u32 = 0xffff_ffff;

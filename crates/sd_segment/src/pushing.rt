@@ -3,13 +3,12 @@ ghost use Rattle.std.specs.Prelude.{◌≡◌, ◌<◌, ◌≤◌, [], ◌∷◌
 ghost use Rattle.sd_link.specs.Link.{last_tick};
 ghost use Rattle.std.specs.Vec.{vec_len, vec_capacity};
 ghost use Rattle.sd_segment.specs.Flight.{replied};
-ghost use Rattle.sd_segment.specs.Server.{packets_in, changed, MayChange};
+ghost use Rattle.sd_server.specs.Server.{packets_in, changed, MayChange};
 ghost use Rattle.sd_segment.specs.declared.flown.What.TheVariants as what;
 
 use crate::flown::{Flown, Kept, Origin, What};
-use crate::server::Server;
-use crate::sessions::Answer;
 use sd_outside::NoMemory;
+use sd_server::{Answer, Server};
 
 const LAST_ID: usize = 1 << 62;
 

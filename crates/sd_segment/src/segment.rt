@@ -1,11 +1,11 @@
 //! The network between the client and the server: what it holds, and what always holds of it.
 ghost use Rattle.std.specs.Prelude.{◌≡◌, ◌⊎◌, ◌≤◌, [], IfOk, IsTrue, IsFalse};
-ghost use Rattle.sd_link.specs.Events.{fates_of, IsEvents};
+ghost use Rattle.sd_config.specs.Events.{fates_of, IsEvents};
 ghost use Rattle.sd_link.specs.Lawful.{IsLawful, IsFrontOf};
 ghost use Rattle.sd_link.specs.Link.{last_tick, IsBounded, NothingWaits};
 ghost use Rattle.sd_link.specs.Steps.{world_of, whole_record};
 ghost use Rattle.sd_link.specs.Printing.{record_text};
-ghost use Rattle.sd_link.specs.Config.{IsConfig};
+ghost use Rattle.sd_config.specs.Config.{IsConfig};
 ghost use Rattle.sd_segment.specs.Segment.{history_of, text_drained, Rests};
 
 mod link;
@@ -14,9 +14,9 @@ mod waiting;
 
 use crate::flown::{Flown, Kept};
 use crate::queue::Queue;
-use crate::server::Server;
-use sd_link::{Config, Events};
+use sd_config::{Config, Events};
 use sd_outside::NoMemory;
+use sd_server::Server;
 use std::alloc::Global;
 use std::marker::Model;
 

@@ -5,7 +5,7 @@ ghost use Rattle.sd_script.specs.Lines.{AddsCommand, MayBeCommand, AddrLine, Boo
 
 use crate::draft::{Draft, Section};
 use crate::limits::COMMAND_LIMIT;
-use crate::script::Command;
+use sd_config::Command;
 use sd_text::{LineError, Parts, only_number, take_end};
 
 /// The next line may be a command line.

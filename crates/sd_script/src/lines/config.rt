@@ -1,5 +1,5 @@
 ghost use Rattle.std.specs.Prelude.{◌≡◌, ◌≢◌, IsTrue, ◌↔◌, IfSome};
-ghost use Rattle.sd_link.specs.declared.config.SwapLine.{SwapLine};
+ghost use Rattle.sd_config.specs.declared.config.SwapLine.{SwapLine};
 ghost use Rattle.sd_script.specs.Judging.{Judges};
 ghost use Rattle.sd_script.specs.Lines.{ArchLine, HostLine, MayAddHost, RootLine, KernelLine, SwapFileLine, MayBeRoot, MayBeSwap};
 
@@ -8,7 +8,7 @@ use crate::fields::{take_name, take_path};
 use crate::limits::HOST_COUNT;
 use crate::lines::heading::in_section;
 use sd_bootparams::Host;
-use sd_link::{Config, SwapLine};
+use sd_config::{Config, SwapLine};
 use sd_outside::ByteList;
 use sd_text::{LineError, Parts, same_text, take_end, take_ip, take_number};
 use std::alloc::Global;

@@ -4,7 +4,7 @@ ghost use Rattle.sd_script.specs.Judging.{Judges, ReadsDelay};
 ghost use Rattle.sd_script.specs.Lines.{FateLine, MayAddFate, MayBeEvent, IsDelays};
 
 use crate::draft::{Draft, Section};
-use sd_link::{Fate, TickList};
+use sd_config::{Fate, TickList};
 use sd_text::{LineError, Parts, read_number, same_text, take_end, take_number};
 use std::alloc::Global;
 

@@ -1,5 +1,5 @@
 ghost use Rattle.std.specs.Prelude.{◌≡◌, ◌≢◌, length, IsTrue, ◌↔◌};
-ghost use Rattle.sd_link.specs.Config.{item_path};
+ghost use Rattle.sd_config.specs.Config.{item_path};
 ghost use Rattle.sd_script.specs.Judging.{Judges};
 ghost use Rattle.sd_script.specs.Lines.{TftpLine, FileLine, LinkLine, HasRoom, MayAddBootFile, MayAddItem};
 
@@ -10,7 +10,7 @@ use crate::limits::{
 };
 use crate::lines::heading::in_section;
 use crate::paths::are_apart;
-use sd_link::{BootFile, RootItem};
+use sd_config::{BootFile, RootItem};
 use sd_outside::ByteList;
 use sd_text::{LineError, Parts, same_text, take_end, take_runs};
 use std::alloc::Global;

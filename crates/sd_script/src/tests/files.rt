@@ -1,6 +1,6 @@
 use crate::read_script;
 use crate::tests::scripts::{push_line, refused, with_line};
-use sd_link::{Config, RootItem};
+use sd_config::{Config, RootItem};
 use sd_outside::{ByteList, NoMemory};
 use sd_text::{push_number, write_runs};
 use std::test::Fail;

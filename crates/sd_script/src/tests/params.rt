@@ -1,7 +1,7 @@
 use crate::read_script;
 use crate::tests::files::push_lines;
 use crate::tests::scripts::{push_line, refused, with_line};
-use sd_link::Config;
+use sd_config::Config;
 use sd_outside::{ByteList, NoMemory};
 use std::test::Fail;
 

@@ -1,4 +1,5 @@
-use crate::{Command, Script, ScriptError, read_script};
+use crate::{Script, ScriptError, read_script};
+use sd_config::Command;
 use sd_outside::{ByteList, NoMemory};
 use std::test::Fail;
 

@@ -2,7 +2,7 @@ use crate::{
     PacketLineError, Told, read_packet_line, write_answer, write_got, write_packet_line,
     write_sent, write_served,
 };
-use sd_link::Stage;
+use sd_config::Stage;
 use sd_outside::{Addr, ByteList, NoMemory, Packet};
 use std::test::Fail;
 

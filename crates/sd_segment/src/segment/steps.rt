@@ -4,7 +4,7 @@ ghost use Rattle.sd_link.specs.Link.{last_tick};
 ghost use Rattle.sd_link.specs.Steps.{Tick, Send, Serve, Data, Get};
 ghost use Rattle.sd_link.specs.Steps as steps;
 ghost use Rattle.sd_segment.specs.Segment.{Rests};
-ghost use Rattle.sd_segment.specs.Server.{dues, IsNext};
+ghost use Rattle.sd_server.specs.Server.{dues, IsNext};
 ghost use Rattle.sd_segment.specs.Passing.{Passes};
 
 use crate::due::{due_ids, place_of};
@@ -12,8 +12,8 @@ use crate::ends::End;
 use crate::flown::{Flown, Kept, Origin, What};
 use crate::pushing::{next_id, push_both, push_served};
 use crate::segment::Segment;
-use crate::sessions::{Sending, sent_again};
 use sd_outside::{NoMemory, Packet};
+use sd_server::{Sending, sent_again};
 
 impl Segment {
     pub(crate) fn next_to_server(&self) -> Option<usize>

@@ -6,12 +6,12 @@ ghost use Rattle.sd_link.specs.Steps.{Step};
 ghost use Rattle.sd_link.specs.declared.link.LinkError.TheVariants as refused;
 ghost use Rattle.sd_segment.specs.Segment.{history_of, text_drained, Rests};
 ghost use Rattle.sd_segment.specs.Passing.{Advances, AllServes, HandsOut, TakesTurn, WentOn};
-ghost use Rattle.sd_segment.specs.Server.{dues, IsNext};
+ghost use Rattle.sd_server.specs.Server.{dues, IsNext};
 
 use crate::segment::Segment;
-use crate::sessions::Sending;
 use sd_link::LinkError;
 use sd_outside::{NoMemory, Packet};
+use sd_server::Sending;
 
 const LAST_TICK: u64 = 1 << 62;
 

@@ -1,7 +1,7 @@
 use Rattle.std.proofs.Common.{Option, None, sym, subst}
 use Rattle.std.specs.Prelude.{IfOk, IfSome}
-use Rattle.sd_link.specs.declared.config.SwapLine.{SwapLine}
-use Rattle.sd_link.specs.Config.{IsSwap}
+use Rattle.sd_config.specs.declared.config.SwapLine.{SwapLine}
+use Rattle.sd_config.specs.Config.{IsSwap}
 use Rattle.sd_boot.specs.Images.{IsNewImage}
 use Rattle.sd_boot.proofs.Imaging.{one_size, new_so}
 use Rattle.sd_boot.proofs.images.new_image.Goals as goal

@@ -1,9 +1,9 @@
 use Rattle.std.proofs.Common.{subst}
-use Rattle.sd_link.specs.Config.{IsFor}
+use Rattle.sd_config.specs.Config.{IsFor}
 use Rattle.sd_link.specs.Link.{Moves}
-use Rattle.sd_link.specs.declared.link.Stage.TheVariants as stage
+use Rattle.sd_config.specs.declared.stage.Stage.TheVariants as stage
 use Rattle.sd_link.proofs.Histories.{moves_weaker}
-use Rattle.sd_script.specs.declared.told.Told.TheVariants.{AddrOk, AddrTimeout, AddrFlood}
+use Rattle.sd_config.specs.declared.told.Told.TheVariants.{AddrOk, AddrTimeout, AddrFlood}
 use Rattle.sd_claims.specs.Causes.{IsAddrCaused}
 use Rattle.sd_claims.specs.Ending.{EndsAfter}
 use Rattle.sd_rpc_retry.specs.declared.asking.Asked.TheVariants as asked

@@ -2,7 +2,7 @@ use Rattle.std.proofs.Common.{List, ℕ, Result, Ok, Err, ◌∙◌, ap, subst, 
 use Rattle.std.specs.Prelude.{codes}
 use Rattle.std.proofs.lemmas.Result.{err_from_is_err_and}
 use Rattle.sd_link.specs.Link.{Moves}
-use Rattle.sd_link.specs.declared.link.Stage.TheVariants as stage
+use Rattle.sd_config.specs.declared.stage.Stage.TheVariants as stage
 use Rattle.sd_rpc_retry.specs.declared.calling.Answer.TheVariants as answers
 use Rattle.sd_rpc_retry.specs.Lasting.{most_asking_ticks}
 use Rattle.sd_rpc_retry.proofs.Lasting.{lasts_then}

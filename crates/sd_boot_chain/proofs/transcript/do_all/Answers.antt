@@ -2,13 +2,13 @@ use Rattle.std.proofs.Common.{◌≡◌, ℕ, ◌+◌, ◌*◌, List, [], ◌∷
 use Rattle.std.proofs.lemmas.List.{take_more, take_all}
 use Rattle.std.specs.Prelude.{OnErr}
 use Rattle.sd_outside.specs.Streams.{Gains}
-use Rattle.sd_link.specs.declared.config.ClientConfig.{ClientConfig}
-use Rattle.sd_link.specs.Config.{IsFor}
+use Rattle.sd_config.specs.declared.config.ClientConfig.{ClientConfig}
+use Rattle.sd_config.specs.Config.{IsFor}
 use Rattle.sd_link.specs.Steps.{whole_record}
 use Rattle.sd_link.specs.Printing.{record_text}
 use Rattle.sd_link.proofs.Histories.{moves_not, moves_then, moves_weaker}
-use Rattle.sd_script.specs.declared.script.Command.{Command}
-use Rattle.sd_script.specs.declared.script.Command.TheVariants.{Addr}
+use Rattle.sd_config.specs.declared.command.Command.{Command}
+use Rattle.sd_config.specs.declared.command.Command.TheVariants.{Addr}
 use Rattle.sd_claims.specs.Session.{IsSession, IsCutSession}
 use Rattle.sd_boot_chain.specs.Durations.{most_ticks, most_session_ticks}
 use Rattle.sd_boot_chain.specs.Writing.{GainsFront}

@@ -1,7 +1,7 @@
 use Rattle.std.proofs.Common.{◌≡◌, ◌≤◌, ◌+◌, ◌*◌, take}
 use Rattle.std.specs.Prelude.{IfSome}
 use Rattle.sd_outside.specs.Causes.{Rose}
-use Rattle.sd_link.specs.Config.{IsFor}
+use Rattle.sd_config.specs.Config.{IsFor}
 use Rattle.sd_link.specs.Steps.{whole_record}
 use Rattle.sd_link.specs.Printing.{record_text}
 use Rattle.sd_link.specs.Link.{Moves}

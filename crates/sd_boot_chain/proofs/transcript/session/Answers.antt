@@ -1,9 +1,9 @@
 use Rattle.std.proofs.Common.{List, [], Result, Ok, Err, ap, subst}
 use Rattle.std.specs.Prelude.{OnOk, OnErr}
-use Rattle.sd_link.specs.declared.config.ClientConfig.{ClientConfig}
-use Rattle.sd_link.specs.Config.{IsFor}
+use Rattle.sd_config.specs.declared.config.ClientConfig.{ClientConfig}
+use Rattle.sd_config.specs.Config.{IsFor}
 use Rattle.sd_link.specs.Link.{Moves}
-use Rattle.sd_script.specs.declared.script.Command.{Command}
+use Rattle.sd_config.specs.declared.command.Command.{Command}
 use Rattle.sd_link.proofs.Histories.{moves_not}
 use Rattle.sd_claims.specs.Session.{IsSession, IsCutSession}
 use Rattle.sd_boot_chain.specs.Step.{ClientView}

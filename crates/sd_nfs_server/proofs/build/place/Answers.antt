@@ -1,6 +1,6 @@
 use Rattle.std.proofs.Common.{List, sym, ◌∙◌, subst}
 use Rattle.std.proofs.Math.Bool.{true≢false}
-use Rattle.sd_link.specs.declared.node.Node.{Node}
+use Rattle.sd_services.specs.declared.node.Node.{Node}
 use Rattle.sd_nfs_server.specs.Placing.{Ascends, IsPlaceOf, HasPathAt}
 use Rattle.sd_nfs_server.proofs.Order.{insert_ascends}
 use Rattle.sd_nfs_server.proofs.build.place.Goals as goal

@@ -1,8 +1,8 @@
 use Rattle.std.proofs.Common.{◌+◌, ◌-◌, ◌/◌, ◌<◌, length, sym, ◌∙◌, subst, arith}
 use Rattle.std.proofs.Math.Bool.{true≢false}
 use Rattle.std.proofs.lemmas.List.{get_or_default}
-use Rattle.sd_link.specs.declared.node.Node.{Node}
-use Rattle.sd_link.specs.Files.{IsBefore}
+use Rattle.sd_services.specs.declared.node.Node.{Node}
+use Rattle.sd_services.specs.Files.{IsBefore}
 use Rattle.sd_nfs_server.proofs.Order.{between_all, upper_half, lower_half}
 use Rattle.sd_nfs_server.proofs.build.place_of.Goals as goal
 

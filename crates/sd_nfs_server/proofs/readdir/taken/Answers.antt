@@ -1,5 +1,5 @@
 use Rattle.std.proofs.Common.{◌≤◌, length, false, [], arith}
-use Rattle.sd_link.specs.Names.{child_name, listed, entries}
+use Rattle.sd_services.specs.Names.{child_name, listed, entries}
 use Rattle.sd_nfs_server.proofs.Windows.{next_is, node_step, nodes_end}
 use Rattle.sd_nfs_server.proofs.readdir.taken.Goals as goal
 

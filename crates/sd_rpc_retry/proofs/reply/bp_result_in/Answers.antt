@@ -2,7 +2,7 @@ use Rattle.std.proofs.Common.{◌≡◌}
 use Rattle.std.specs.Option.{option_map}
 use Rattle.std.proofs.lemmas.Result.{IfOk-weaker}
 use Rattle.sd_bootparams.specs.Layout.{result_kind, result_value}
-use Rattle.sd_link.specs.RpcCalls.{spelled}
+use Rattle.sd_services.specs.RpcCalls.{spelled}
 use Rattle.sd_rpc_retry.specs.Reading.{IsKnown}
 use Rattle.sd_rpc_retry.proofs.Known.{known_says}
 use Rattle.sd_rpc_retry.proofs.reply.bp_result_in.Goals as goal

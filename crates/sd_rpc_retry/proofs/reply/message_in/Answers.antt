@@ -4,7 +4,7 @@ use Rattle.std.specs.Option.{option_map}
 use Rattle.std.proofs.lemmas.Result.{IfOk-weaker}
 use Rattle.sd_rpc_msg.specs.Layout.{message, message_value}
 use Rattle.sd_rpc_msg.specs.Laws.{IsMessage}
-use Rattle.sd_link.specs.RpcCalls.{spelled}
+use Rattle.sd_services.specs.RpcCalls.{spelled}
 use Rattle.sd_rpc_retry.specs.Reading.{IsKnown}
 use Rattle.sd_rpc_retry.proofs.Known.{known_says, known_is_message}
 use Rattle.sd_rpc_retry.proofs.reply.message_in.Goals as goal

@@ -1,5 +1,5 @@
 use Rattle.std.proofs.Common.{take, sym, ◌∙◌}
-use Rattle.sd_link.specs.Events.{fate_in}
+use Rattle.sd_config.specs.Events.{fate_in}
 use Rattle.sd_segment.specs.Flight.{goes_to}
 use Rattle.sd_segment.proofs.Fates.{timely}
 use Rattle.sd_segment.proofs.Dues.{due_more}

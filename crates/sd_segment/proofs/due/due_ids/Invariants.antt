@@ -1,5 +1,5 @@
 use Rattle.std.proofs.Common.{◌≡◌, take, map}
-use Rattle.sd_link.specs.Events.{fate_in}
+use Rattle.sd_config.specs.Events.{fate_in}
 use Rattle.sd_link.specs.Lawful.{due}
 use Rattle.sd_segment.specs.Flight.{goes_to, flying_of}
 use Rattle.sd_segment.proofs.due.due_ids.Given as goal

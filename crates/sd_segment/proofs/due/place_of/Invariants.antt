@@ -1,5 +1,5 @@
 use Rattle.std.proofs.Common.{◌≡◌, drop}
-use Rattle.sd_link.specs.Events.{fate_in}
+use Rattle.sd_config.specs.Events.{fate_in}
 use Rattle.sd_segment.proofs.due.place_of.Given as goal
 
 abbrev pub invariant-loop-place : goal.invariant-loop-place

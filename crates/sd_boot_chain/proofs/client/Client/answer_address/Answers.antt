@@ -1,6 +1,6 @@
 use Rattle.std.proofs.Common.{subst}
 use Rattle.std.specs.Prelude.{IfOk}
-use Rattle.sd_link.specs.Config.{IsFor}
+use Rattle.sd_config.specs.Config.{IsFor}
 use Rattle.sd_link.specs.Link.{Moves}
 use Rattle.sd_claims.specs.Causes.{IsAddrCaused}
 use Rattle.sd_claims.specs.Ending.{EndsAfter}

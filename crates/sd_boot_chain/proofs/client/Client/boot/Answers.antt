@@ -1,9 +1,9 @@
 use Rattle.std.proofs.Common.{subst, arith}
 use Rattle.sd_link.specs.Link.{Moves}
-use Rattle.sd_link.specs.declared.link.Stage.TheVariants as stage
+use Rattle.sd_config.specs.declared.stage.Stage.TheVariants as stage
 use Rattle.sd_link.proofs.Histories.{moves_weaker}
-use Rattle.sd_script.specs.declared.script.Command.TheVariants.{Boot}
-use Rattle.sd_script.specs.declared.told.Told.TheVariants.{BootTimeout, BootFlood}
+use Rattle.sd_config.specs.declared.command.Command.TheVariants.{Boot}
+use Rattle.sd_config.specs.declared.told.Told.TheVariants.{BootTimeout, BootFlood}
 use Rattle.sd_rpc_retry.specs.Lasting.{most_asking_ticks}
 use Rattle.sd_rpc_retry.proofs.Lasting.{lasts_then}
 use Rattle.sd_boot_chain.specs.Durations.{most_ticks, most_boot_ticks}

@@ -3,8 +3,8 @@ use Rattle.std.specs.Prelude.{IfOk}
 use Rattle.std.proofs.lemmas.Result.{IfOk-weaker}
 use Rattle.sd_link.specs.Link.{Moves}
 use Rattle.sd_link.proofs.Histories.{moves_weaker}
-use Rattle.sd_script.specs.declared.script.Command.{Command}
-use Rattle.sd_script.specs.declared.script.Command.TheVariants.{Addr}
+use Rattle.sd_config.specs.declared.command.Command.{Command}
+use Rattle.sd_config.specs.declared.command.Command.TheVariants.{Addr}
 use Rattle.sd_boot_chain.specs.Step.{IsDone}
 use Rattle.sd_boot_chain.proofs.Booting.{addr_done}
 use Rattle.sd_boot_chain.proofs.client.Client.step.Goals as goal

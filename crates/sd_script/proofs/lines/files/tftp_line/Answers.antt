@@ -1,7 +1,7 @@
 use Rattle.std.proofs.Common.{length, sym, ◌∙◌}
 use Rattle.std.proofs.lemmas.Bool.{false≢true}
 use Rattle.std.proofs.lemmas.Result.{err_from_is_err_and}
-use Rattle.sd_link.specs.Config.{boot_file_limit}
+use Rattle.sd_config.specs.Config.{boot_file_limit}
 use Rattle.sd_text.specs.Runs.{IsRunsWithin}
 use Rattle.sd_script.specs.Lines.{HasRoom}
 use Rattle.sd_text.proofs.Exits.{handed_on, firsts, others}

@@ -2,8 +2,8 @@ use Rattle.std.proofs.Common.{◌≡◌, ◌<◌, ◌≤◌, [], ◌∷◌, leng
 use Rattle.sd_link.specs.Steps.{End}
 use Rattle.sd_segment.specs.Inside.{view_of}
 use Rattle.sd_segment.specs.Segment.{SegmentView, IsSound}
-use Rattle.sd_segment.specs.Server.{ServerView, IsNext, dues}
-use Rattle.sd_segment.proofs.Firsts.{fewer_ended}
+use Rattle.sd_server.specs.Server.{ServerView, IsNext, dues}
+use Rattle.sd_server.proofs.Firsts.{fewer_ended}
 use Rattle.sd_segment.proofs.Passing.{ended_next, ended_is, sound_ended, passes_ended, passes_at}
 use Rattle.sd_segment.proofs.segment.Segment.end.Goals as goal
 

@@ -1,7 +1,7 @@
 use Rattle.std.proofs.Common.{◌≡◌, ◌+◌, ◌<◌, List, [], ◌∷◌, map, ◌∙◌, sym, ap, subst}
 use Rattle.std.specs.List.Sorted.{IsNonDecreasingBy}
 use Rattle.sd_link.specs.World.{World}
-use Rattle.sd_link.specs.Events.{fate_in, fates_of}
+use Rattle.sd_config.specs.Events.{fate_in, fates_of}
 use Rattle.sd_link.specs.Lawful.{due, due_to_server, due_to_client}
 use Rattle.sd_link.specs.Link.{last_tick}
 use Rattle.sd_link.specs.Steps.{Tick, goes_to_server, goes_to_client}

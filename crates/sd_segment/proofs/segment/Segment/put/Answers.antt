@@ -1,5 +1,5 @@
 use Rattle.std.proofs.Common.{◌≡◌, ℕ, ◌<◌, [], ◌∷◌, List, length, ◌∙◌, sym, ap, subst}
-use Rattle.sd_link.specs.Events.{fate_in}
+use Rattle.sd_config.specs.Events.{fate_in}
 use Rattle.sd_link.specs.Link.{last_tick}
 use Rattle.sd_link.specs.Steps.{Send}
 use Rattle.sd_segment.specs.declared.flown.Flown.{Flown}

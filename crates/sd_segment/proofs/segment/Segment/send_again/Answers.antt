@@ -1,15 +1,15 @@
 use Rattle.std.proofs.Common.{◌≡◌, ℕ, ◌<◌, [], ◌∷◌, List, length, ◌∙◌, sym, ap, subst}
-use Rattle.sd_link.specs.Events.{fate_in}
+use Rattle.sd_config.specs.Events.{fate_in}
 use Rattle.sd_link.specs.Link.{last_tick}
 use Rattle.sd_link.specs.Steps.{Data}
-use Rattle.sd_link.specs.Sessions.{with_session}
+use Rattle.sd_services.specs.Sessions.{with_session}
 use Rattle.sd_segment.specs.declared.flown.Flown.{Flown}
-use Rattle.sd_segment.specs.declared.sessions.Sending.{Sending}
+use Rattle.sd_server.specs.declared.sessions.Sending.{Sending}
 use Rattle.sd_segment.specs.Flight.{delays_of}
 use Rattle.sd_segment.specs.Inside.{view_of}
 use Rattle.sd_segment.specs.Segment.{SegmentView, IsSound}
-use Rattle.sd_segment.specs.Server.{ServerView, session_of, IsNext, dues}
-use Rattle.sd_segment.proofs.Firsts.{fewer_again}
+use Rattle.sd_server.specs.Server.{ServerView, session_of, IsNext, dues}
+use Rattle.sd_server.proofs.Firsts.{fewer_again}
 use Rattle.sd_segment.proofs.Passing.{again_next, again_is, sound_again, passes_again, passes_at, fate_found}
 use Rattle.sd_segment.proofs.segment.Segment.send_again.Goals as goal
 

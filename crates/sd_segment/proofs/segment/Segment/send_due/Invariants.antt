@@ -1,5 +1,5 @@
 use Rattle.std.proofs.Common.{◌≡◌, [], length}
-use Rattle.sd_segment.specs.Server.{dues}
+use Rattle.sd_server.specs.Server.{dues}
 use Rattle.sd_segment.proofs.Waiting.{Serves}
 use Rattle.sd_segment.proofs.segment.Segment.send_due.Given as goal
 

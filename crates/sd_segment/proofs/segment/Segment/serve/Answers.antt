@@ -1,14 +1,14 @@
 use Rattle.std.proofs.Common.{◌≡◌, ℕ, ◌<◌, [], ◌∷◌, List, Some, length, ◌∙◌, sym, ap, subst, rules}
 use Rattle.std.specs.Prelude.{slice_get}
-use Rattle.sd_link.specs.Events.{fate_in}
+use Rattle.sd_config.specs.Events.{fate_in}
 use Rattle.sd_link.specs.Link.{last_tick}
-use Rattle.sd_link.specs.Reply.{reply}
+use Rattle.sd_services.specs.Reply.{reply}
 use Rattle.sd_link.specs.Steps.{Serve, goes_to_server}
 use Rattle.sd_segment.specs.declared.flown.Flown.{Flown}
 use Rattle.sd_segment.specs.Flight.{delays_of}
 use Rattle.sd_segment.specs.Inside.{view_of}
 use Rattle.sd_segment.specs.Segment.{SegmentView, IsSound}
-use Rattle.sd_segment.specs.Server.{Answers}
+use Rattle.sd_server.specs.Server.{Answers}
 use Rattle.sd_segment.proofs.Passing.{served_next, served_is, sound_served, passes_served, passes_at, refused_is, fate_found, found_in, coming_to_server, coming_inside}
 use Rattle.sd_segment.proofs.segment.Segment.serve.Goals as goal
 

@@ -1,0 +1,4 @@
+pub mod Config
+pub mod Program
+pub mod Events
+pub mod Commands

@@ -1,9 +1,0 @@
-use Rattle.std.proofs.Common.{◌≡◌, drop}
-use Rattle.std.specs.List.{find}
-use Rattle.sd_link.specs.Sessions.{is_session_of}
-use Rattle.sd_segment.specs.Server.{session_of}
-use Rattle.sd_segment.proofs.sessions.session_at.Given as goal
-
-abbrev pub invariant-loop-session : goal.invariant-loop-session
-invariant-loop-session l =
-    find (λ s. is_session_of l.port l.peer (session_of l.config s)) (drop l.session-index l.sessions) ≡ find (λ s. is_session_of l.port l.peer (session_of l.config s)) l.sessions

@@ -1,0 +1,9 @@
+pub mod Known
+pub mod Fitting
+pub mod Found
+pub mod Blocks
+pub mod Numbering
+pub mod Firsts
+pub mod Files
+pub mod Datagrams
+pub mod Retained

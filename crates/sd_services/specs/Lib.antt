@@ -1,0 +1,9 @@
+pub mod Part
+pub mod Sessions
+pub mod RpcCalls
+pub mod RpcReply
+pub mod Reply
+pub mod Files
+pub mod Names
+pub mod Decisions
+pub mod NfsReply
