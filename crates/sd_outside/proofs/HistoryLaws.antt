@@ -5,9 +5,9 @@ use Rattle.std.proofs.lemmas.List.{get_or_default, length-replicate, same_lists,
 use Rattle.std.proofs.Math.Seq.{take-length}
 use Rattle.sd_outside.specs.Ranges.{part, put, Torn}
 use Rattle.sd_outside.specs.Disk.{Elapses, Only}
-use Rattle.sd_outside.specs.Moments.{State, Change, MayLeave, MightHaveLeft, after, replay, picked}
+use Rattle.sd_outside.specs.Moments.{State, Change, MayLeave, MightHaveLeft, after, replay, all_synced}
 use Rattle.sd_outside.specs.Moments.Change.{Write, Sync}
-use Rattle.sd_outside.specs.MomentLaws.{same_state, length-picked, picked_unmarked}
+use Rattle.sd_outside.specs.MomentLaws.{same_state}
 use Rattle.sd_outside.specs.Kept.{Outside, Spares, SparedBy, AllFit, end_of, Refreshed, Near}
 use Rattle.sd_outside.specs.declared.range.Span.{Span}
 use Rattle.sd_outside.proofs.RangeLaws.{length-part, length-put, get_or-part, get_or-put, get_or-put_below, get_or-put_above}
@@ -179,27 +179,33 @@ only_seen state bytes n same none image left = ap Some (sym (same_lists image by
     let inside : k < length bytes = omega (arith, below, left.size, ap length same) in
     get_or_default image k d 0 below ∙ left.stays k (ap (λ (l : List Bool). get_or l k false) none ∙ get_or-false n k) ∙ ap (λ (l : List ℕ). get_or l k 0) same ∙ get_or_default bytes k 0 d inside)))
 
--- a crash picked what becomes of the unsynced bytes, and then all is synced
-module _ (outcome : ℕ) (synced : List ℕ) (old settled now : State) (synced_size : length synced ≡ length old.bytes) (marks_size : length old.unsynced ≡ length old.bytes)
-    (picked_is : settled.bytes ≡ picked outcome 0 synced old.bytes old.unsynced) (marks_is : settled.unsynced ≡ old.unsynced) (now_is : now ≡ after Sync settled) where
-  crashed_bytes : now.bytes ≡ picked outcome 0 synced old.bytes old.unsynced
-  crashed_bytes = ap (λ (s : State). s.bytes) now_is ∙ picked_is
+-- a crash left what it may leave, and then all is synced
+module _ (old settled now : State) (left : MayLeave old settled.bytes) (marks_size : length old.unsynced ≡ length old.bytes)
+    (marks_is : settled.unsynced ≡ old.unsynced) (now_is : now ≡ after Sync settled) where
+  crashed_bytes : now.bytes ≡ settled.bytes
+  crashed_bytes = ap (λ (s : State). s.bytes) now_is
 
   pub crashed_marks : now.unsynced ≡ replicate (length old.unsynced) false
   crashed_marks = ap (λ (s : State). s.unsynced) now_is ∙ ap (λ (l : List Bool). replicate (length l) false) marks_is
 
   pub crashed_size : length now.bytes ≡ length old.bytes
-  crashed_size = ap length crashed_bytes ∙ length-picked outcome 0 synced old.bytes old.unsynced synced_size marks_size
+  crashed_size = ap length crashed_bytes ∙ left.size
 
   pub crashed_marks_size : length now.unsynced ≡ length now.bytes
   crashed_marks_size = ap length crashed_marks ∙ length-replicate (length old.unsynced) false ∙ marks_size ∙ sym crashed_size
+
+  pub crashed_synced : (synced : List ℕ) → synced ≡ settled.bytes → record { marks = now.unsynced; synced = synced } ≡ all_synced now.bytes
+  crashed_synced synced same =
+      let marks : now.unsynced ≡ replicate (length now.bytes) false = crashed_marks ∙ ap (λ (n : ℕ). replicate n false) (marks_size ∙ sym crashed_size) in
+      let bytes : synced ≡ now.bytes = same ∙ sym crashed_bytes in
+      λ i. record { marks = marks i; synced = bytes i }
 
   pub near_crashed : (changes : List Change) (dirty : Span) (named : State) → named ≡ old → ((place : ℕ) → Outside dirty place → get_or old.unsynced place false ≡ false) → Near changes dirty named now
   near_crashed changes dirty named named_is covered = record {
     size = ap (λ (s : State). length s.bytes) named_is ∙ sym crashed_size;
     unsynced_size = ap (λ (s : State). length s.unsynced) named_is ∙ marks_size ∙ sym crashed_size ∙ sym crashed_marks_size;
     bytes = λ place spared outside. ap (λ (s : State). get_or s.bytes place 0) named_is
-        ∙ sym (ap (λ (l : List ℕ). get_or l place 0) crashed_bytes ∙ picked_unmarked outcome 0 synced old.bytes old.unsynced place synced_size marks_size (covered place outside));
+        ∙ sym (ap (λ (l : List ℕ). get_or l place 0) crashed_bytes ∙ left.stays place (covered place outside));
     unsynced = λ place spared outside. ap (λ (s : State). get_or s.unsynced place false) named_is ∙ covered place outside
         ∙ sym (ap (λ (l : List Bool). get_or l place false) crashed_marks ∙ get_or-false (length old.unsynced) place);
   }

@@ -1,10 +1,10 @@
 -- Changes and reads, one call after another.
 use Rattle.std.proofs.Common.{◌≡◌, ◌⊎◌, inl, inr, ℕ, ◌+◌, ◌-◌, ◌<◌, ◌≤◌, length, refl, sym, ◌∙◌, ap, subst, arith}
-use Rattle.std.specs.Prelude.{Option, Some, None, IsSomeAnd, Result, Err, IsErr}
+use Rattle.std.specs.Prelude.{Bool, Option, Some, None, IsSomeAnd, Result, Err, IsErr}
 use Rattle.std.specs.Result.{is_err}
 use Rattle.std.specs.Option.{option_map}
 use Rattle.sd_outside.specs.Plan.{later}
-use Rattle.sd_outside.specs.DiskPlan.{Plan, Uses, Answers, Makes, TakesNumber, Refuses, Both}
+use Rattle.sd_outside.specs.DiskPlan.{Plan, Uses, Answers, Makes, TakesNumber, Refuses, TooLong, Both}
 use Rattle.sd_outside.proofs.PlanLaws.{later-zero, later-add, length-later}
 use Rattle.sd_outside.proofs.ChangeLaws.{stop_kept}
 
@@ -88,20 +88,23 @@ makes_then most_changes most_reads more_changes more_reads F G H why first mid l
     causes (inr refused) = inr (refused_more one.changes one.reads two.changes first mid one.uses refused)
 
 -- one call of a disk
-pub makes_one : (changes reads bytes : ℕ) (F : Type 0) → bytes ≤ 8256 → (first last : Plan) → Answers changes reads bytes F first last → Makes changes reads F first last
-makes_one changes reads bytes F short first last answers = record {
+pub makes_one : (changes reads : ℕ) (L F : Type 0) → (L → ⊥) → (first last : Plan) → Answers changes reads L F first last → Makes changes reads F first last
+makes_one changes reads L F short first last answers = record {
   changes = changes;
   reads = reads;
   few_changes = omega arith;
   few_reads = omega arith;
   uses = answers.uses;
-  planned = λ fails. causes (answers.planned fails);
+  planned = λ fails. causes (answers.fails.0 fails);
 }
   where
-    causes : TakesNumber first last ⊎ Refuses changes first ⊎ (8256 < bytes) → TakesNumber first last ⊎ Refuses changes first
+    causes : TakesNumber first last ⊎ Refuses changes first ⊎ L → TakesNumber first last ⊎ Refuses changes first
     causes (inl takes) = inl takes
     causes (inr (inl refused)) = inr refused
-    causes (inr (inr long)) = absurd (omega (arith, long, short))
+    causes (inr (inr long)) = absurd (short long)
+
+pub short_enough : (tells : Bool) (bytes : ℕ) → bytes ≤ 8256 → TooLong tells bytes → ⊥
+short_enough tells bytes short long = omega (arith, long.1, short)
 
 -- fewer calls than the most
 pub makes_fewer : (most_changes most_reads more_changes more_reads : ℕ) (F H : Type 0) → most_changes ≤ more_changes → most_reads ≤ more_reads → (H → F) → (first last : Plan) → Makes most_changes most_reads F first last → Makes more_changes more_reads H first last
@@ -119,8 +122,8 @@ is_an_err result error is = ap is_err is
 
 -- the same for disks that may tell no plan
 module _ (a b c : Option Plan) where
-  pub plan_one : (changes reads bytes : ℕ) (F : Type 0) → bytes ≤ 8256 → Both (Answers changes reads bytes F) a b → Both (Makes changes reads F) a b
-  plan_one changes reads bytes F short both = both_map (makes_one changes reads bytes F short) a b both
+  pub plan_one : (changes reads : ℕ) (L F : Type 0) → (L → ⊥) → Both (Answers changes reads L F) a b → Both (Makes changes reads F) a b
+  plan_one changes reads L F short both = both_map (makes_one changes reads L F short) a b both
 
   pub plan_then : (most_changes most_reads more_changes more_reads : ℕ) (F G H : Type 0) → (H → G) → Both (Makes most_changes most_reads F) a b → Both (Makes more_changes more_reads G) b c → Both (Makes (most_changes + more_changes) (most_reads + more_reads) H) a c
   plan_then most_changes most_reads more_changes more_reads F G H why first second = both_then (makes_then most_changes most_reads more_changes more_reads F G H why) a b c first second

@@ -1,5 +1,6 @@
 -- What a disk gives, and what a crash may leave of it.
 use Rattle.std.specs.Prelude.{◌≡◌, ◌⊎◌, ◌↔◌, ℕ, ◌≤◌, List, Option, Some}
+use Rattle.sd_outside.specs.Moments.{Unsynced}
 
 -- a crash leaves what a read gives and nothing else
 abbrev pub Only : Option (List ℕ) → (List ℕ → Type 0) → Type 0
@@ -29,3 +30,12 @@ pub record LeavesOnly {D A : Type 0} (moment : D → ℕ) (left_since : D → �
   pub each : (left : A) → left_since new (moment old) left → P left
   -- for a run that began earlier
   pub before : (since : ℕ) (left : A) → since ≤ moment old → left_since new since left → left_since old since left ⊎ P left
+
+-- Nothing happened: a read gives what it gave, the same bytes are unsynced, a crash may leave what it could leave, and so it
+-- might have at each moment.
+pub record Unchanged {D : Type 0} (seen : D → Option (List ℕ)) (unsynced : D → Option Unsynced) (may_leave : D → List ℕ → Type 0) (moment : D → ℕ) (left_since : D → ℕ → List ℕ → Type 0) (old new : D) : Type 0 where
+  pub bytes : seen new ≡ seen old
+  pub marks : unsynced new ≡ unsynced old
+  pub crash : LeavesSame (may_leave old) (may_leave new)
+  pub time : moment new ≡ moment old
+  pub past : (since : ℕ) → LeavesSame (left_since old since) (left_since new since)

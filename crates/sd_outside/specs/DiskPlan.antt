@@ -1,5 +1,5 @@
 -- The faults that are planned for a disk, its stop and its room.
-use Rattle.std.specs.Prelude.{◌≡◌, ◌⊎◌, ℕ, Bool, ◌+◌, ◌-◌, ◌<◌, ◌≤◌, List, length, Option, Some, None, if◌then◌else◌, IsSomeAnd}
+use Rattle.std.specs.Prelude.{◌≡◌, ◌⊎◌, ℕ, Bool, ◌+◌, ◌-◌, ◌<◌, ◌≤◌, List, length, Option, Some, None, if◌then◌else◌, IsSomeAnd, IsTrue, ◌↔◌}
 use Rattle.std.specs.Option.{option_map}
 use Rattle.sd_outside.specs.Plan.{later}
 
@@ -46,12 +46,15 @@ pub record Makes (most_changes most_reads : ℕ) (failed : Type 0) (old new : Pl
   pub uses : Uses changes reads old new
   pub planned : failed → TakesNumber old new ⊎ Refuses changes old
 
--- One change or read of a disk. It fails where a number was taken out of a list. It fails only there, unless the stop
--- refused it, or there was no room, or more bytes were written than a disk keeps.
-pub record Answers (changes reads bytes : ℕ) (failed : Type 0) (old new : Plan) : Type 0 where
+-- more bytes than a disk keeps of one write, at a disk that tells its crashes
+abbrev pub TooLong : Bool → ℕ → Type 0
+TooLong tells bytes = IsTrue tells × (8256 < bytes)
+
+-- One change or read of a disk. It fails exactly where a number was taken out of a list, the stop refuses it, there is no
+-- room for it, or it is too long.
+pub record Answers (changes reads : ℕ) (too_long failed : Type 0) (old new : Plan) : Type 0 where
   pub uses : Uses changes reads old new
-  pub taken : TakesNumber old new → failed
-  pub planned : failed → TakesNumber old new ⊎ Refuses changes old ⊎ (8256 < bytes)
+  pub fails : failed ↔ (TakesNumber old new ⊎ Refuses changes old ⊎ too_long)
 
 -- a moment was named: there is room for at least 64 changes
 pub record Begins (old new : Plan) : Type 0 where

@@ -1,5 +1,5 @@
 -- The moments of a disk in memory: what it held at each, from the changes that it keeps, and what a crash could leave there.
-use Rattle.std.specs.Prelude.{◌≡◌, ℕ, ◌+◌, ◌%◌, ◌≤◌, List, [], ◌∷◌, length, replicate, take, get_or, Bool, true, false, if◌then◌else◌, ◌==◌}
+use Rattle.std.specs.Prelude.{◌≡◌, ℕ, ◌+◌, ◌%◌, ◌≤◌, List, [], ◌∷◌, length, replicate, take, get_or, Bool, true, false, Option, Some, None, ◌↔◌, if◌then◌else◌, ◌==◌}
 use Rattle.sd_outside.specs.Ranges.{put}
 
 -- the bytes, and which of them were written since the last sync
@@ -25,6 +25,25 @@ pub record MayLeave (state : State) (image : List ℕ) : Type 0 where
   pub size : length image ≡ length state.bytes
   pub stays : (place : ℕ) → get_or state.unsynced place false ≡ false → get_or image place 0 ≡ get_or state.bytes place 0
 
+-- which bytes were written since the last sync, and all bytes as they were then
+pub record Unsynced : Type 0 where
+  pub marks : List Bool
+  pub synced : List ℕ
+
+-- n bytes from a place on were written
+abbrev pub marked : ℕ → ℕ → Unsynced → Unsynced
+marked at n old = record old { marks = put at (replicate n true) old.marks }
+
+-- all bytes are synced
+abbrev pub all_synced : List ℕ → Unsynced
+all_synced bytes = record { marks = replicate (length bytes) false; synced = bytes }
+
+-- a crash may leave any bytes where something is unsynced, and leaves the others as they are
+pub record LeavesUnsynced (bytes : List ℕ) (unsynced : Unsynced) (may_leave : List ℕ → Type 0) : Type 0 where
+  pub marks_size : length unsynced.marks ≡ length bytes
+  pub synced_size : length unsynced.synced ≡ length bytes
+  pub each : (image : List ℕ) → may_leave image ↔ MayLeave (record { bytes = bytes; unsynced = unsynced.marks }) image
+
 -- what it may have left at some moment, counted in the changes since the named one
 abbrev pub MightHaveLeft : State → List Change → ℕ → List ℕ → Type 0
 MightHaveLeft named changes since image = (moment : ℕ) × (since ≤ moment) × (moment ≤ length changes) × MayLeave (replay (take moment changes) named) image
@@ -44,3 +63,8 @@ picked outcome place (old ∷ olds) (new ∷ news) (false ∷ marks) = new ∷ p
 picked outcome place [] news marks = []
 picked outcome place (old ∷ olds) [] marks = []
 picked outcome place (old ∷ olds) (new ∷ news) [] = []
+
+-- what an outcome of a crash leaves of these bytes, where it is told which of them are unsynced; else they stay
+abbrev pub crashed : ℕ → List ℕ → Option Unsynced → List ℕ
+crashed outcome bytes None = bytes
+crashed outcome bytes (Some unsynced) = picked outcome 0 unsynced.synced bytes unsynced.marks

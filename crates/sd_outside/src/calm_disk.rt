@@ -24,7 +24,7 @@ impl CalmDisk {
 }
 
 impl Disk for CalmDisk {
-    ghost use Rattle.std.specs.Prelude.{length, Some, false, refl};
+    ghost use Rattle.std.specs.Prelude.{length, Some, None, false, refl};
     ghost use Rattle.sd_outside.specs.CalmDisk.{calm_plan, same_length, never};
 
     ghost size = { λ disk. length disk.bytes.items };
@@ -32,6 +32,8 @@ impl Disk for CalmDisk {
     ghost seen = { λ disk. Some disk.bytes.items };
 
     ghost tells_crash = { λ _. false };
+
+    ghost unsynced = { λ _. None };
 
     ghost may_leave = { λ _ _. ⊥ };
 
@@ -46,6 +48,10 @@ impl Disk for CalmDisk {
     ghost is_whole = { λ disk bytes told. same_length disk.bytes.items bytes told };
 
     ghost tells_seen = { λ disk told. refl };
+
+    ghost tells_unsynced = { λ disk tells. never tells };
+
+    ghost leaves_unsynced = { λ disk. tt };
 
     ghost seen_may_stay = { λ disk bytes tells told. never tells };
 
@@ -75,8 +81,6 @@ impl Disk for CalmDisk {
 impl StopDisk for CalmDisk {
     ghost use Rattle.std.specs.Prelude.{refl};
     ghost use Rattle.sd_outside.specs.CalmDisk.{never};
-
-    ghost outcome_of = { λ disk _. disk.bytes.items };
 
     ghost may_happen = { λ disk outcome few tells. never tells };
 

@@ -5,8 +5,9 @@ ghost use Rattle.std.specs.Prelude.{◌≡◌, ◌⊎◌, ◌+◌, ◌≤◌, �
 ghost use Rattle.std.specs.Option.{option_map};
 ghost use Rattle.sd_outside.specs.Causes.{HasCause};
 ghost use Rattle.sd_outside.specs.Ranges.{part, put, Torn};
-ghost use Rattle.sd_outside.specs.Disk.{Only, Follows, LeavesNoMore, LeavesSame, Elapses};
-ghost use Rattle.sd_outside.specs.DiskPlan.{Plan, Both, Answers, Begins, Stops, Restarts};
+ghost use Rattle.sd_outside.specs.Disk.{Only, Follows, LeavesNoMore, LeavesSame, Elapses, Unchanged};
+ghost use Rattle.sd_outside.specs.DiskPlan.{Plan, Both, Answers, TooLong, Begins, Stops, Restarts};
+ghost use Rattle.sd_outside.specs.Moments.{Unsynced, marked, all_synced, LeavesUnsynced, crashed};
 
 use crate::Failed;
 
@@ -20,6 +21,9 @@ pub trait Disk {
 
     /// The disk tells what a crash leaves. One that doesn't has no outcomes, so that nothing is said of them.
     ghost tells_crash: { Self → Bool };
+
+    /// Which bytes were written since the last sync, and all bytes as they were then, where they are told.
+    ghost unsynced: { Self → Option Unsynced };
 
     /// What a crash at this moment may leave.
     ghost may_leave: { Self → List ℕ → Type 0 };
@@ -44,6 +48,7 @@ pub trait Disk {
         ensures tells { tells_crash self.new ≡ tells_crash self.old }
         ensures crash { LeavesNoMore (may_leave self.old) (may_leave self.new) }
         ensures time { Elapses (moment self.old) (moment self.new) (left_since self.old) (left_since self.new) (may_leave self.new) }
+        ensures unsynced { unsynced self.new ≡ unsynced self.old }
         ensures plan { plan self.new ≡ plan self.old }
         ensures told { IsSome (plan self.old) → IsErr result → ⊥ }
         ensures cause { HasCause (faults self.old) (faults self.new) result };
@@ -57,11 +62,12 @@ pub trait Disk {
         ensures tells { tells_crash self.new ≡ tells_crash self.old }
         ensures crash { LeavesNoMore (may_leave self.old) (may_leave self.new) }
         ensures time { Elapses (moment self.old) (moment self.new) (left_since self.old) (left_since self.new) (may_leave self.new) }
-        ensures plan { Both (Answers 0 1 0 (IsErr result)) (plan self.old) (plan self.new) }
+        ensures unsynced { unsynced self.new ≡ unsynced self.old }
+        ensures plan { Both (Answers 0 1 ⊥ (IsErr result)) (plan self.old) (plan self.new) }
         ensures cause { HasCause (faults self.old) (faults self.new) result };
 
     /// Writes over the bytes from `at`. A write that fails may have put any bytes into its range, which then counts as
-    /// written. `Failed` comes only where the count of faults rose.
+    /// written; where the plan is told it did nothing. `Failed` comes only where the count of faults rose.
     fn write(&mut self, at: u64, bytes: &[u8]) -> Result<(), Failed>
         requires { at + length bytes.now ≤ size self.old }
         ensures written { OnOk result (seen self.new ≡ option_map (put at bytes.now) (seen self.old)) }
@@ -70,11 +76,13 @@ pub trait Disk {
         ensures tells { tells_crash self.new ≡ tells_crash self.old }
         ensures crash { Follows (Torn at (length bytes.now)) (may_leave self.old) (may_leave self.new) }
         ensures time { Elapses (moment self.old) (moment self.new) (left_since self.old) (left_since self.new) (may_leave self.new) }
-        ensures plan { Both (Answers 1 0 (length bytes.now) (IsErr result)) (plan self.old) (plan self.new) }
-        ensures stopped { IsSomeAnd (plan self.old) (λ plan. plan.stop ≡ Some 0) → IsErr result }
+        ensures unsynced { (unsynced self.new ≡ option_map (marked at (length bytes.now)) (unsynced self.old)) ⊎ (IsErr result × (unsynced self.new ≡ unsynced self.old)) }
+        ensures plan { Both (Answers 1 0 (TooLong (tells_crash self.old) (length bytes.now)) (IsErr result)) (plan self.old) (plan self.new) }
+        ensures undone { IsSome (plan self.old) → IsErr result → Unchanged seen unsynced may_leave moment left_since self.old self.new }
         ensures cause { HasCause (faults self.old) (faults self.new) result };
 
-    /// After `Ok` a crash leaves what a read gives. `Failed` comes only where the count of faults rose.
+    /// After `Ok` a crash leaves what a read gives. A sync that fails where the plan is told did nothing. `Failed` comes only
+    /// where the count of faults rose.
     fn sync(&mut self) -> Result<(), Failed>
         ensures durable { OnOk result (Only (seen self.old) (may_leave self.new)) }
         ensures size { size self.new ≡ size self.old }
@@ -82,8 +90,9 @@ pub trait Disk {
         ensures tells { tells_crash self.new ≡ tells_crash self.old }
         ensures crash { LeavesNoMore (may_leave self.old) (may_leave self.new) }
         ensures time { Elapses (moment self.old) (moment self.new) (left_since self.old) (left_since self.new) (may_leave self.new) }
-        ensures plan { Both (Answers 1 0 0 (IsErr result)) (plan self.old) (plan self.new) }
-        ensures stopped { IsSomeAnd (plan self.old) (λ plan. plan.stop ≡ Some 0) → IsErr result }
+        ensures unsynced { OnOk result (IfSome (seen self.old) (λ bytes. unsynced self.new ≡ option_map (λ _. all_synced bytes) (unsynced self.old))) }
+        ensures plan { Both (Answers 1 0 ⊥ (IsErr result)) (plan self.old) (plan self.new) }
+        ensures undone { IsSome (plan self.old) → IsErr result → Unchanged seen unsynced may_leave moment left_since self.old self.new }
         ensures cause { HasCause (faults self.old) (faults self.new) result };
 
     /// What a read gives is as long as the disk.
@@ -91,6 +100,12 @@ pub trait Disk {
 
     /// A disk that tells what a crash leaves tells what a read gives.
     ghost tells_seen: { (disk : Self) → IsTrue (tells_crash disk) → IsSome (seen disk) };
+
+    /// A disk that tells what a crash leaves tells what is unsynced.
+    ghost tells_unsynced: { (disk : Self) → IsTrue (tells_crash disk) → IsSome (unsynced disk) };
+
+    /// A crash may leave any bytes where something is unsynced, and leaves the others.
+    ghost leaves_unsynced: { (disk : Self) → IfSome (seen disk) (λ bytes. IfSome (unsynced disk) (λ unsynced. LeavesUnsynced bytes unsynced (may_leave disk))) };
 
     /// A crash may leave what was written.
     ghost seen_may_stay: { (disk : Self) (bytes : List ℕ) → IsTrue (tells_crash disk) → seen disk ≡ Some bytes → may_leave disk bytes };
@@ -104,14 +119,12 @@ pub trait Disk {
 
 /// A disk that can be stopped after some changes and made to crash. A change is a write or a sync.
 pub trait StopDisk: Disk {
-    /// What a crash with that outcome makes of the disk.
-    ghost outcome_of: { Self → ℕ → List ℕ };
-
     /// Names this moment as the one from which the disk keeps its changes. There is room for 64 of them.
     fn begin(&mut self)
         ensures named { Self.Disk.moment self.new ≡ 0 }
         ensures size { Self.Disk.size self.new ≡ Self.Disk.size self.old }
         ensures seen { Self.Disk.seen self.new ≡ Self.Disk.seen self.old }
+        ensures unsynced { Self.Disk.unsynced self.new ≡ Self.Disk.unsynced self.old }
         ensures tells { Self.Disk.tells_crash self.new ≡ Self.Disk.tells_crash self.old }
         ensures crash { LeavesSame (Self.Disk.may_leave self.old) (Self.Disk.may_leave self.new) }
         ensures plan { Both Begins (Self.Disk.plan self.old) (Self.Disk.plan self.new) }
@@ -121,6 +134,7 @@ pub trait StopDisk: Disk {
     fn stop_after(&mut self, changes: u32)
         ensures size { Self.Disk.size self.new ≡ Self.Disk.size self.old }
         ensures seen { Self.Disk.seen self.new ≡ Self.Disk.seen self.old }
+        ensures unsynced { Self.Disk.unsynced self.new ≡ Self.Disk.unsynced self.old }
         ensures tells { Self.Disk.tells_crash self.new ≡ Self.Disk.tells_crash self.old }
         ensures crash { LeavesSame (Self.Disk.may_leave self.old) (Self.Disk.may_leave self.new) }
         ensures moment { Self.Disk.moment self.new ≡ Self.Disk.moment self.old }
@@ -129,10 +143,12 @@ pub trait StopDisk: Disk {
         ensures faults { Self.Disk.faults self.new ≡ Self.Disk.faults self.old };
 
     /// Each byte that was written since the last sync becomes what it was then (0), stays as it is (1), stays at even places
-    /// and becomes what it was at odd ones (2), or becomes A5 (3). A crash then leaves just that. There is no stop any more.
+    /// and becomes what it was at odd ones (2), or becomes A5 (3). Nothing is unsynced then, so that a crash leaves just that.
+    /// There is no stop any more.
     fn crash(&mut self, outcome: u8)
         requires { outcome ≤ 3 }
-        ensures picked { Self.Disk.seen self.new ≡ Some (outcome_of self.old outcome) }
+        ensures picked { IsSomeAnd (Self.Disk.seen self.old) (λ bytes. Self.Disk.seen self.new ≡ Some (crashed outcome bytes (Self.Disk.unsynced self.old))) }
+        ensures synced { IfSome (Self.Disk.seen self.new) (λ bytes. Self.Disk.unsynced self.new ≡ option_map (λ _. all_synced bytes) (Self.Disk.unsynced self.old)) }
         ensures only { Only (Self.Disk.seen self.new) (Self.Disk.may_leave self.new) }
         ensures size { Self.Disk.size self.new ≡ Self.Disk.size self.old }
         ensures tells { Self.Disk.tells_crash self.new ≡ Self.Disk.tells_crash self.old }
@@ -140,7 +156,7 @@ pub trait StopDisk: Disk {
         ensures faults { Self.Disk.faults self.new ≡ Self.Disk.faults self.old };
 
     /// Each outcome is one that a crash may leave.
-    ghost may_happen: { (disk : Self) (outcome : ℕ) → outcome ≤ 3 → IsTrue (Self.Disk.tells_crash disk) → Self.Disk.may_leave disk (outcome_of disk outcome) };
+    ghost may_happen: { (disk : Self) (outcome : ℕ) → outcome ≤ 3 → IsTrue (Self.Disk.tells_crash disk) → IfSome (Self.Disk.seen disk) (λ bytes. Self.Disk.may_leave disk (crashed outcome bytes (Self.Disk.unsynced disk))) };
 
     /// Its plan is told.
     ghost tells_plan: { (disk : Self) → IsSome (Self.Disk.plan disk) };

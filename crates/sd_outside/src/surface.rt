@@ -1,7 +1,7 @@
 //! The bytes of a disk in memory, and what is unsynced.
 ghost use Rattle.std.specs.Prelude.{◌≡◌, ◌+◌, ◌≤◌, length, get_or, replicate, false, true, IfOk};
 ghost use Rattle.sd_outside.specs.Ranges.{part};
-ghost use Rattle.sd_outside.specs.Moments.{after, pick, picked};
+ghost use Rattle.sd_outside.specs.Moments.{after, pick, picked, MayLeave};
 ghost use Rattle.sd_outside.specs.Moments.Change.{Write, Sync};
 ghost use Rattle.sd_outside.specs.Kept.{Outside};
 
@@ -100,6 +100,7 @@ impl Surface {
     /// A crash with that outcome picks what becomes of the unsynced bytes.
     pub(crate) fn settle(&mut self, outcome: u8)
         ensures bytes { self.new.state.bytes ≡ picked outcome 0 self.old.synced self.old.state.bytes self.old.state.unsynced }
+        ensures may_be { MayLeave self.old.state self.new.state.bytes }
         ensures unsynced { self.new.state.unsynced ≡ self.old.state.unsynced }
         ensures synced { self.new.synced ≡ self.old.synced }
     {

@@ -1,9 +1,9 @@
-use Rattle.std.proofs.Common.{◌≡◌, ◌⊎◌, ◌+◌, ◌<◌, ◌≤◌, ℕ, List, [], ◌∷◌, length, get_or, false, Some, refl, sym, ◌∙◌, ap, subst, arith, length-append}
+use Rattle.std.proofs.Common.{◌≡◌, ◌+◌, ℕ, List, [], ◌∷◌, length, get_or, false, refl, sym, ◌∙◌, ap, subst, arith, length-append}
 use Rattle.sd_outside.specs.Disk.{Elapses}
 use Rattle.sd_outside.specs.Moments.{State, Change, MayLeave, MightHaveLeft, after, replay}
 use Rattle.sd_outside.specs.Moments.Change.{Sync}
 use Rattle.sd_outside.specs.Kept.{AllFit}
-use Rattle.sd_outside.proofs.ChangeLaws.{answers_change}
+use Rattle.sd_outside.proofs.ChangeLaws.{Refused, not_refused, answers_change, long_sync}
 use Rattle.sd_outside.proofs.HistoryLaws.{after_size, fit_more, bytes_more, unsynced_more, elapses, only_seen}
 use Rattle.sd_outside.proofs.mem_disk.MemDiskDisk.sync.Goals as goal
 
@@ -11,14 +11,15 @@ pub returns-then-refuses-clause-plan : goal.returns-then-refuses-clause-plan
 returns-then-refuses-clause-plan c =
     let self = c.args.self.now in
     let kept = length self.history.changes in
-    answers_change self.changes c.refuses.new.changes self.reads self.stop c.refuses.new.stop kept kept 0 _ c.refuses.ensures.changes c.refuses.ensures.stop (omega arith) (omega arith) (λ fewer. refl)
-    (λ fails. subst (λ (n : ℕ). (length c.refuses.new.changes < length self.changes) ⊎ (self.stop ≡ Some 0) ⊎ (64 ≤ n) ⊎ (8256 < 0)) c.kept.ensures.kept c.if-refuses.ensures.yes)
+    answers_change self.changes c.refuses.new.changes self.reads self.stop c.refuses.new.stop kept kept 0 _ _ c.refuses.ensures.changes c.refuses.ensures.stop (omega arith) (omega arith) long_sync (λ why. refl)
+    (λ fails. subst (λ (n : ℕ). Refused c.refuses.new.changes self.changes self.stop n 0) c.kept.ensures.kept c.if-refuses.ensures.yes)
 
 pub returns-clause-plan : goal.returns-clause-plan
 returns-clause-plan c =
     let self = c.args.self.now in
     let more : length c.add_sync.new.self.changes ≡ length self.history.changes + 1 = ap length c.add_sync.ensures.changes ∙ length-append self.history.changes (Sync ∷ []) in
-    answers_change self.changes c.refuses.new.changes self.reads self.stop c.refuses.new.stop (length self.history.changes) (length c.add_sync.new.self.changes) 0 _ c.refuses.ensures.changes c.refuses.ensures.stop (omega (arith, more)) (omega (arith, more)) (λ fewer. absurd (c.if-refuses.ensures.no.0 fewer)) (λ fails. absurd (cc fails))
+    answers_change self.changes c.refuses.new.changes self.reads self.stop c.refuses.new.stop (length self.history.changes) (length c.add_sync.new.self.changes) 0 _ _ c.refuses.ensures.changes c.refuses.ensures.stop (omega (arith, more)) (omega (arith, more)) long_sync
+    (not_refused c.refuses.new.changes self.changes self.stop (length self.history.changes) _ 0 c.kept.ensures.kept c.if-refuses.ensures.no) (λ fails. absurd (cc fails))
 
 pub invariant_of-self-2-clause-bytes_replayed : goal.invariant_of-self-2-clause-bytes_replayed
 invariant_of-self-2-clause-bytes_replayed c =

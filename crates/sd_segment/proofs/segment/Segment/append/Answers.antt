@@ -1,12 +1,14 @@
-use Rattle.std.proofs.Common.{◌≡◌, ℕ, ◌-◌, List, ◌++◌, length, take, drop, sym, ◌∙◌, ap, arith}
+use Rattle.std.proofs.Common.{◌≡◌, ℕ, ◌-◌, List, ◌++◌, length, take, drop, sym, ◌∙◌, ap, subst, arith}
 use Rattle.std.proofs.lemmas.List.{take_all, take_rest}
 use Rattle.sd_link.specs.Printing.{record_text}
 use Rattle.sd_segment.specs.declared.flown.Flown.{Flown}
 use Rattle.sd_segment.specs.declared.flown.Kept.{Kept}
 use Rattle.sd_segment.specs.Kept.{entries_kept}
-use Rattle.sd_segment.specs.Segment.{text_drained}
+use Rattle.sd_segment.specs.Segment.{text_drained, Rests}
+use Rattle.sd_segment.specs.Inside.{view_of}
+use Rattle.sd_segment.proofs.Passing.{rests_of}
 use Rattle.sd_segment.proofs.Printed.{all_lines}
-use Rattle.sd_segment.proofs.segment.link.SegmentLink.drain.Goals as goal
+use Rattle.sd_segment.proofs.segment.Segment.append.Goals as goal
 
 pub returns-clause-text : goal.returns-clause-text
 returns-clause-text c =
@@ -29,3 +31,6 @@ returns-clause-text c =
           ∙ ap (λ (l : List ℕ). text_drained c.args.self.now ++ l) (sym rest),
       c.in_ok-push_slice.ensures.ok ∙ ap (λ (l : List ℕ). c.args.text.now ++ l) c.as_slice-3.ensures,
     )
+
+pub returns-clause-rests : goal.returns-clause-rests
+returns-clause-rests c = rests_of (view_of c.self.inside) c.self.invariant (subst Rests (sym c.self.view_is) c.requires.ready)
