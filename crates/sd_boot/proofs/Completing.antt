@@ -19,10 +19,11 @@ use Rattle.sd_config.specs.declared.command.Command.{Command}
 use Rattle.sd_config.specs.declared.command.Command.TheVariants.{Addr, Boot, Wait}
 use Rattle.sd_config.specs.declared.told.Told.{Told}
 use Rattle.sd_config.specs.declared.told.Told.TheVariants.{AddrOk, AddrTimeout, AddrFlood, AddrLinkFault, BootUnbuilt, BootTimeout, BootFlood, BootDenied, BootRefused, BootNoPort, BootTooLarge, BootLinkFault, WaitOk, WaitFlood, WaitLinkFault}
-use Rattle.sd_link.specs.Tries.{AreUnmatched}
+use Rattle.sd_link.specs.Tries.{AreUnmatched, RepliesAtOnce, beyond}
 use Rattle.sd_claims.specs.Rarp.{Learned, rarp_hearing, learned_from}
-use Rattle.sd_claims.specs.Booting.{Counts, first_counts}
-use Rattle.sd_claims.specs.Causes.{IsCaused, IsAddrCaused, IsWaitCaused, counts_after}
+use Rattle.sd_claims.specs.Booting.{Counts, LearnsAddress, first_counts}
+use Rattle.sd_claims.specs.Causes.{Cause, addr_ok, addr_timeout, addr_flood, boot_unbuilt, boot_timeout_rarp, boot_timeout_tftp, boot_timeout_call, boot_flood_rarp, boot_flood_tftp, boot_flood_call, boot_denied, boot_refused, boot_no_port, boot_too_large, wait_ok, wait_flood, AddressTimedOut, AddressFlooded, counts_after}
+use Rattle.sd_claims.specs.Waiting.{Waited, WaitFlooded}
 use Rattle.sd_claims.specs.Transcript.{Done, AllCaused}
 use Rattle.sd_claims.specs.Ending.{Ends, AllEnd}
 use Rattle.sd_claims.specs.Session.{parts_of}
@@ -84,7 +85,7 @@ lasting request tries wait (r ∷ q ∷ rests) some least two all waited =
 
 module _ (c : Config) (is : IsConfig c) where
   -- a client that asks for its address sends nothing for what it gets
-  nothing_else : (rests : List (List Step)) → AllByRecursion (λ rest. sends_in rest ≡ flat_map (rarp_hearing c.client.mac).replies (got_in rest)) rests → AllByRecursion (λ rest. sends_in rest ≡ []) rests
+  nothing_else : (rests : List (List Step)) → AllByRecursion (RepliesAtOnce (rarp_hearing c.client.mac).replies) rests → AllByRecursion (λ rest. sends_in rest ≡ []) rests
   nothing_else [] replied = tt
   nothing_else (rest ∷ rests) replied = (sends_nothing (rarp_hearing c.client.mac) rest (λ packet. refl) replied.0, nothing_else rests replied.1)
 
@@ -129,7 +130,7 @@ module _ (c : Config) (is : IsConfig c) where
     pub rests : Rests t
     pub settled : Settles c plain w entries d.part
 
-  module _ (patient : 2 ≤ c.tries * c.wait) (w : World) (entries : List Entry) (s : Stages) (part : List Step) (at : Stands c is w entries s) (rests : Rests s) (settled : AllGot c plain w entries) (allowed : AllAllowed c w part) (turns : AllInTurn c plain w entries part) where
+  module _ (settled_by : List Step → Type 0) (patient : 2 ≤ c.tries * c.wait) (w : World) (entries : List Entry) (s : Stages) (part : List Step) (at : Stands c is w entries s) (rests : Rests s) (settled : AllGot c plain w entries) (allowed : AllAllowed c w part) (turns : AllInTurn c plain w entries part) where
     follow_silent : sends_in part ≡ [] → Followed c is w entries s part
     follow_silent silent =
         follow c is w entries s part at allowed turns (silent-settled c plain w entries part silent) (subst (λ (l : List Packet). AllByRecursion (λ p. p ≡ request_of c) l) (sym silent) tt)
@@ -139,9 +140,9 @@ module _ (c : Config) (is : IsConfig c) where
     follow_tries rests cut silent sends =
         follow c is w entries s part at allowed turns sends (subst (λ (l : List Step). AllByRecursion (λ p. p ≡ request_of c) (sends_in l)) (sym cut) (asks_only (request_of c) rests silent))
 
-    address_next : (ip : ℕ) → IsAddrCaused c (AddrOk ip) part → Ends c plain w entries (AddrOk ip) part → Next w entries (record { part = part; answer = AddrOk ip })
-    address_next ip caused ended =
-        let asks = caused.2.asks in
+    address_next : (learned : Learned) → LearnsAddress settled_by c learned part → Ends c plain w entries (AddrOk learned.address) part → Next w entries (record { part = part; answer = AddrOk learned.address })
+    address_next learned caused ended =
+        let asks = caused.asks in
         let silent = nothing_else (asks.before ++ asks.last ∷ []) asks.is.replied in
         let f = follow_tries (asks.before ++ asks.last ∷ []) asks.is.cut silent (ended.1 settled) in
         let last = ended.0 in
@@ -158,7 +159,7 @@ module _ (c : Config) (is : IsConfig c) where
               (subst (λ (l : List Step). Stands c is (run c w l) (entries ++ record_of c w l) f.t) last.3 f.stands) again.none_waits);
         }
 
-    no_timeout : IsAddrCaused c AddrTimeout part → Ends c plain w entries AddrTimeout part → ⊥
+    no_timeout : AddressTimedOut settled_by c part → Ends c plain w entries AddrTimeout part → ⊥
     no_timeout caused ended =
         let ends = ended settled in
         let f = follow_tries caused.rests caused.is.cut (nothing_else caused.rests caused.is.replied) ends.0 in
@@ -170,16 +171,16 @@ module _ (c : Config) (is : IsConfig c) where
         let waits = reply_waits goes.0 f.t long.0 goes.2 got_none (omega (arith, goes.1.new_sent)) long.2 in
         omega (arith, waits, none_waits c is (run c w part) (entries ++ record_of c w part) f.t f.stands ends.1)
 
-    no_flood : IsAddrCaused c (AddrFlood stage.Rarp) part → Ends c plain w entries (AddrFlood stage.Rarp) part → ⊥
+    no_flood : AddressFlooded settled_by c part → Ends c plain w entries (AddrFlood stage.Rarp) part → ⊥
     no_flood caused ended =
         let asks = caused.asks in
         let f = follow_tries (asks.before ++ asks.last ∷ []) asks.is.cut (nothing_else (asks.before ++ asks.last ∷ []) asks.is.replied) (ended settled) in
         let none = unmatched-none (got_in part) f.replies caused.unmatched in
         omega (arith, caused.many, last_within (request_of c) asks.before asks.last, ap (λ (l : List Step). length (got_in l)) asks.is.cut, ap length none)
 
-    pause_next : (ticks shown : ℕ) → IsWaitCaused ticks (WaitOk shown) part → Ends c plain w entries (WaitOk shown) part → Next w entries (record { part = part; answer = WaitOk shown })
-    pause_next ticks shown caused ended =
-        let silent = caused.1.silent in
+    pause_next : (ticks : ℕ) → Waited settled_by ticks part → Ends c plain w entries (WaitOk ticks) part → Next w entries (record { part = part; answer = WaitOk ticks })
+    pause_next ticks caused ended =
+        let silent = caused.silent in
         let f = follow_silent silent in
         record {
           ok = tt;
@@ -189,75 +190,48 @@ module _ (c : Config) (is : IsConfig c) where
           settled = ended;
         }
 
-    no_wait_flood : (ticks shown : ℕ) → IsWaitCaused ticks (WaitFlood shown) part → ⊥
-    no_wait_flood ticks shown caused =
-        let silent = caused.1.silent in
+    no_wait_flood : (ticks : ℕ) → WaitFlooded ticks part → ⊥
+    no_wait_flood ticks caused =
+        let silent = caused.silent in
         let f = follow_silent silent in
-        omega (arith, caused.1.many, pause_few s f.t part rests f.goes silent)
+        omega (arith, caused.many, pause_few s f.t part rests f.goes silent)
 
-    addr_next : (answer : Told) → IsAddrCaused c answer part → Ends c plain w entries answer part → Next w entries (record { part = part; answer = answer })
-    addr_next (AddrOk ip) caused ended = address_next ip caused ended
-    addr_next AddrTimeout caused ended = absurd (no_timeout caused ended)
-    addr_next (AddrFlood stage.Rarp) caused ended = absurd (no_flood caused ended)
-    addr_next (AddrFlood stage.Tftp) caused ended = absurd caused
-    addr_next (AddrFlood stage.Whoami) caused ended = absurd caused
-    addr_next (AddrFlood stage.Getfile) caused ended = absurd caused
-    addr_next (AddrFlood stage.Getport) caused ended = absurd caused
-    addr_next (AddrFlood stage.Mnt) caused ended = absurd caused
-    addr_next (AddrFlood stage.Wait) caused ended = absurd caused
-    addr_next AddrLinkFault caused ended = absurd caused
-    addr_next (BootUnbuilt step program) caused ended = absurd caused
-    addr_next (BootTimeout step) caused ended = absurd caused
-    addr_next (BootFlood step) caused ended = absurd caused
-    addr_next (BootDenied step code) caused ended = absurd caused
-    addr_next (BootRefused step code) caused ended = absurd caused
-    addr_next BootNoPort caused ended = absurd caused
-    addr_next (BootTooLarge size) caused ended = absurd caused
-    addr_next BootLinkFault caused ended = absurd caused
-    addr_next (WaitOk shown) caused ended = absurd caused
-    addr_next (WaitFlood shown) caused ended = absurd caused
-    addr_next (WaitLinkFault shown) caused ended = absurd caused
-
-    wait_next : (ticks : ℕ) (answer : Told) → IsWaitCaused ticks answer part → Ends c plain w entries answer part → Next w entries (record { part = part; answer = answer })
-    wait_next ticks (WaitOk shown) caused ended = pause_next ticks shown caused ended
-    wait_next ticks (WaitFlood shown) caused ended = absurd (no_wait_flood ticks shown caused)
-    wait_next ticks (WaitLinkFault shown) caused ended = absurd caused
-    wait_next ticks (AddrOk ip) caused ended = absurd caused
-    wait_next ticks AddrTimeout caused ended = absurd caused
-    wait_next ticks (AddrFlood step) caused ended = absurd caused
-    wait_next ticks AddrLinkFault caused ended = absurd caused
-    wait_next ticks (BootUnbuilt step program) caused ended = absurd caused
-    wait_next ticks (BootTimeout step) caused ended = absurd caused
-    wait_next ticks (BootFlood step) caused ended = absurd caused
-    wait_next ticks (BootDenied step code) caused ended = absurd caused
-    wait_next ticks (BootRefused step code) caused ended = absurd caused
-    wait_next ticks BootNoPort caused ended = absurd caused
-    wait_next ticks (BootTooLarge size) caused ended = absurd caused
-    wait_next ticks BootLinkFault caused ended = absurd caused
-
-    next : (n : Counts) (command : Command) (answer : Told) → command ≢ Boot → IsCaused c n command answer part → Ends c plain w entries answer part → Next w entries (record { part = part; answer = answer })
-    next n Addr answer other caused ended = addr_next answer caused ended
-    next n Boot answer other caused ended = absurd (other refl)
-    next n (Wait ticks) answer other caused ended = wait_next ticks answer caused ended
+    next : (n : Counts) (command : Command) (answer : Told) → command ≢ Boot → Cause settled_by c n command answer part → Ends c plain w entries answer part → Next w entries (record { part = part; answer = answer })
+    next n _ _ other (addr_ok learned _ caused) ended = address_next learned caused ended
+    next n _ _ other (addr_timeout _ caused) ended = absurd (no_timeout caused ended)
+    next n _ _ other (addr_flood _ caused) ended = absurd (no_flood caused ended)
+    next n _ _ other (boot_unbuilt program port _ some caused) ended = absurd (other refl)
+    next n _ _ other (boot_timeout_rarp _ caused) ended = absurd (other refl)
+    next n _ _ other (boot_timeout_tftp _ caused) ended = absurd (other refl)
+    next n _ _ other (boot_timeout_call program step _ caused) ended = absurd (other refl)
+    next n _ _ other (boot_flood_rarp _ caused) ended = absurd (other refl)
+    next n _ _ other (boot_flood_tftp _ caused) ended = absurd (other refl)
+    next n _ _ other (boot_flood_call program step _ caused) ended = absurd (other refl)
+    next n _ _ other (boot_denied program step code _ caused) ended = absurd (other refl)
+    next n _ _ other (boot_refused code _ caused) ended = absurd (other refl)
+    next n _ _ other (boot_no_port program _ caused) ended = absurd (other refl)
+    next n _ _ other (boot_too_large size _ caused) ended = absurd (other refl)
+    next n _ _ other (wait_ok ticks _ caused) ended = pause_next ticks caused ended
+    next n _ _ other (wait_flood ticks _ caused) ended = absurd (no_wait_flood ticks caused)
 
   -- ---- all commands
 
-  all_ok : 2 ≤ c.tries * c.wait → (w : World) (entries : List Entry) (s : Stages) (m : Counts) (commands : List Command) (done : List Done) → AllByRecursion (λ command. command ≢ Boot) commands → Stands c is w entries s → Rests s → AllGot c plain w entries
-      → AllAllowed c w (parts_of done) → AllInTurn c plain w entries (parts_of done) → AllCaused c m commands done → AllEnd c plain w entries done → AllByRecursion (λ d. IsOk d.answer) done
-  all_ok patient w entries s m commands [] others at rests settled allowed turns caused ended = tt
-  all_ok patient w entries s m [] (d ∷ ds) others at rests settled allowed turns caused ended = absurd caused
-  all_ok patient w entries s m (k ∷ ks) (d ∷ ds) others at rests settled allowed turns caused ended =
+  all_ok : (settled_by : List Step → Type 0) → 2 ≤ c.tries * c.wait → (w : World) (entries : List Entry) (s : Stages) (m : Counts) (commands : List Command) (done : List Done) → AllByRecursion (λ command. command ≢ Boot) commands → Stands c is w entries s → Rests s → AllGot c plain w entries
+      → AllAllowed c w (parts_of done) → AllInTurn c plain w entries (parts_of done) → AllCaused settled_by c m commands done → AllEnd c plain w entries done → AllByRecursion (λ d. IsOk d.answer) done
+  all_ok settled_by patient w entries s m commands [] others at rests settled allowed turns caused ended = tt
+  all_ok settled_by patient w entries s m [] (d ∷ ds) others at rests settled allowed turns caused ended = absurd caused
+  all_ok settled_by patient w entries s m (k ∷ ks) (d ∷ ds) others at rests settled allowed turns caused ended =
       let a = allowed-split c w d.part (parts_of ds) allowed in
       let t = in_turn-split c plain w entries d.part (parts_of ds) turns in
-      let n = next patient w entries s d.part at rests settled a.0 t.0 m k d.answer others.0 caused.0 ended.0 in
-      (n.ok, all_ok patient (run c w d.part) (entries ++ record_of c w d.part) n.t (counts_after m d.answer) ks ds others.1 n.stands n.rests n.settled a.1 t.1 caused.1 ended.1)
+      let n = next settled_by patient w entries s d.part at rests settled a.0 t.0 m k d.answer others.0 caused.0.cause ended.0 in
+      (n.ok, all_ok (beyond settled_by d.part) patient (run c w d.part) (entries ++ record_of c w d.part) n.t (counts_after m d.answer) ks ds others.1 n.stands n.rests n.settled a.1 t.1 caused.1 ended.1)
 
 -- all answers of a calm script are ok
-pub complete : (s : Script) → IsConfig s.config → (commands : List Command) (done : List Done) → IsLawful s.config (fates_of s.events) (parts_of done) → AllCaused s.config first_counts commands done
+pub complete : (settled_by : List Step → Type 0) (s : Script) → IsConfig s.config → (commands : List Command) (done : List Done) → IsLawful s.config (fates_of s.events) (parts_of done) → AllCaused settled_by s.config first_counts commands done
     → AllEnd s.config (fates_of s.events) (start s.config) [] done → AllByRecursion (λ command. command ≢ Boot) commands → IsCalm s → AllByRecursion (λ d. IsOk d.answer) done
-complete s is commands done law caused ended others calm =
+complete settled_by s is commands done law caused ended others calm =
     let c = s.config in
-    all_ok c is calm.patient (start c) [] (record { sent = 0; asked = 0; replied = 0; waiting = 0 }) first_counts commands done others (stands_start c is)
+    all_ok c is settled_by calm.patient (start c) [] (record { sent = 0; asked = 0; replied = 0; waiting = 0 }) first_counts commands done others (stands_start c is)
     (record { none_sent = refl; few = omega arith; none_waits = refl }) refl law.allowed
     (subst (λ (l : List Fate). AllInTurn c (fate_in l) (start c) [] (parts_of done)) calm.plain law.in_turn) caused
     (subst (λ (l : List Fate). AllEnd c (fate_in l) (start c) [] done) calm.plain ended)

@@ -1,6 +1,6 @@
 -- From a session over a lawful history to the transcript of a script.
 use Rattle.std.specs.List.{AllByRecursion}
-use Rattle.std.proofs.Common.{◌≡◌, ℕ, zero, suc, ◌<◌, List, [], ◌∷◌, ◌++◌, take, Option, Some, refl, ap, subst, arith, inl, inr}
+use Rattle.std.proofs.Common.{◌≡◌, ℕ, zero, suc, ◌<◌, List, [], ◌∷◌, ◌++◌, take, Option, Some, refl, sym, ◌∙◌, ap, subst, arith, inl, inr}
 use Rattle.std.specs.Prelude.{◌⊎◌, ◌≢◌}
 use Rattle.sd_outside.specs.Causes.{Rose}
 use Rattle.sd_outside.specs.Streams.{Gains}
@@ -10,9 +10,10 @@ use Rattle.sd_config.specs.declared.events.Events.{Events}
 use Rattle.sd_config.specs.Config.{IsConfig, IsFor}
 use Rattle.sd_config.specs.Events.{Fates, fates_of}
 use Rattle.sd_link.specs.World.{World, start}
-use Rattle.sd_link.specs.Steps.{Step, Entry, History, AllAllowed, after, entries_of, world_of}
-use Rattle.sd_link.specs.Lawful.{IsLawful, AllInTurn}
-use Rattle.sd_link.specs.Link.{GoesOn, Moves, last_tick}
+use Rattle.sd_link.specs.Steps.{Step, Entry, History, AllAllowed, after, entries_of, world_of, whole_record}
+use Rattle.sd_link.specs.Lawful.{IsLawful, EndsAtRest, AllInTurn, Settles}
+use Rattle.sd_link.specs.Printing.{record_text}
+use Rattle.sd_link.specs.Link.{GoesOn, Moves, IsAtRestBy, IsDrained, last_tick}
 use Rattle.sd_link.proofs.Histories.{world-goes, tick-run}
 use Rattle.sd_script.specs.declared.script.Script.{Script}
 use Rattle.sd_config.specs.declared.command.Command.{Command}
@@ -32,6 +33,10 @@ use Rattle.sd_boot.proofs.Completing.{complete}
 -- the history of a script at its start
 abbrev pub first_history : Script → History
 first_history s = record { config = s.config; events = s.events; steps = [] }
+
+-- nothing happened and nothing was drained, so all was
+pub all_drained : (s : Script) (old : History) (drained : List ℕ) → old ≡ first_history s → drained ≡ [] → IsDrained (Some old) drained
+all_drained s old drained first none = none ∙ sym (ap (λ (h : History). record_text (whole_record h)) first)
 
 -- ---- what is lawful stays so when its end is left out
 
@@ -62,14 +67,24 @@ all_taken P zero xs all = tt
 all_taken P (suc count) [] all = tt
 all_taken P (suc count) (x ∷ xs) all = (all.0, all_taken P count xs all.1)
 
+-- what waits for the client, told of the steps since the start
+abbrev settled_of : Script → List Step → Type 0
+settled_of s steps = Settles s.config (fates_of s.events) (start s.config) [] steps
+
+-- what a session says of the server's rest, told of the script: at the start nothing is due
+rests_so : (s : Script) (done : List Done) → (done ≡ []) ⊎ IsAtRestBy (first_history s) (parts_of done) → EndsAtRest s.config (fates_of s.events) (parts_of done)
+rests_so s done (inl none) = subst (λ (d : List Done). EndsAtRest s.config (fates_of s.events) (parts_of d)) (sym none) (refl, refl)
+rests_so s done (inr rests) = rests
+
 -- commands that were done over a lawful history, each with its cause and ending as it says, are done as the script owes
-done_so : (s : Script) → IsConfig s.config → (commands : List Command) (done : List Done) → IsLawful s.config (fates_of s.events) (parts_of done) → AllCaused s.config first_counts commands done
+done_so : (s : Script) → IsConfig s.config → (commands : List Command) (done : List Done) → IsLawful s.config (fates_of s.events) (parts_of done) → EndsAtRest s.config (fates_of s.events) (parts_of done) → AllCaused (settled_of s) s.config first_counts commands done
     → AllEnd s.config (fates_of s.events) (start s.config) [] done → (IsCalm s → AllByRecursion (λ command. command ≢ Boot) commands) → AreDone s commands done
-done_so s is commands done law caused ended others = record {
+done_so s is commands done law rests caused ended others = record {
   lawful = law;
-  machine = answers_run s.config is commands done law.allowed caused;
+  rests = rests;
+  machine = answers_run s.config is (settled_of s) commands done law.allowed caused;
   caused = caused;
-  complete = λ calm. complete s is commands done law caused ended (others calm) calm;
+  complete = λ calm. complete (settled_of s) s is commands done law caused ended (others calm) calm;
 }
 
 -- ---- the whole
@@ -83,7 +98,7 @@ played s client before after new is is_for law moved =
     let lawful = subst (λ (l : List Step). IsLawful s.config (fates_of s.events) l) session.cut (lawful_part s new part moved.1 law) in (
       written s session.done,
       session.text,
-      record { done = session.done; all = done_so s is s.commands session.done lawful session.caused session.ended (λ calm. calm.no_boot); whole = refl },
+      record { done = session.done; all = done_so s is s.commands session.done lawful (rests_so s session.done session.rests) session.caused session.ended (λ calm. calm.no_boot); whole = refl },
     )
 
 pub cut_short : (s : Script) (client : ClientConfig) (before after : Option (List ℕ)) (new : History) → IsConfig s.config → IsFor s.config client → LawfulHistory new
@@ -96,7 +111,7 @@ cut_short s client before after new is is_for law moved =
     let front = lawful-front s.config (fates_of s.events) (parts_of session.done) session.more lawful in (
       session.front,
       session.text,
-      record { count = session.count; done = session.done; some = done_so s is (take session.count s.commands) session.done front session.caused session.ended (λ calm. all_taken _ session.count s.commands calm.no_boot); front = session.short },
+      record { count = session.count; done = session.done; some = done_so s is (take session.count s.commands) session.done front (rests_so s session.done session.rests) session.caused session.ended (λ calm. all_taken _ session.count s.commands calm.no_boot); front = session.short },
     )
 
 -- ---- no fault of the link comes in a session
@@ -121,7 +136,7 @@ pub unplayed : (s : Script) (told : Option (List ℕ)) → GainsSome told told (
 unplayed s told = (
   [],
   gains_nothing told,
-  record { count = 0; done = []; some = record { lawful = record { allowed = tt; in_turn = tt }; machine = tt; caused = tt; complete = λ calm. tt }; front = ([], refl) },
+  record { count = 0; done = []; some = record { lawful = record { allowed = tt; in_turn = tt }; rests = (refl, refl); machine = tt; caused = tt; complete = λ calm. tt }; front = ([], refl) },
 )
 
 pub play_done : (s : Script) (client : ClientConfig) (before after : Option (List ℕ)) (old new : History) (faults_old faults_new tick : ℕ) → IsConfig s.config → IsFor s.config client

@@ -2,7 +2,7 @@
 use Rattle.std.proofs.Common.{◌≡◌, ℕ, ◌<◌, ◌≤◌, List, [], ◌∷◌, ◌++◌, length, Option, Some, None, Result, Ok, Err, refl, sym, ◌∙◌, ap, subst, arith, inl, inr}
 use Rattle.std.specs.Prelude.{◌⊎◌, IfOk, IfSome}
 use Rattle.std.specs.List.{concat}
-use Rattle.sd_link.specs.Texts.{Text}
+use Rattle.sd_text.specs.Texts.{Text}
 use Rattle.sd_link.specs.Lawful.{IsFrontOf}
 use Rattle.sd_script.specs.Limits.{input_limit}
 use Rattle.sd_script.specs.Grammar.{lines}

@@ -3,7 +3,7 @@ use Rattle.std.proofs.Common.{◌≡◌, ℕ, ◌+◌, ◌-◌, ◌≤◌, List,
 use Rattle.std.proofs.lemmas.List.{append-nil}
 use Rattle.std.specs.List.{concat}
 use Rattle.std.specs.Prelude.{IfErr}
-use Rattle.sd_link.specs.Texts.{Text}
+use Rattle.sd_text.specs.Texts.{Text}
 use Rattle.sd_script.specs.Limits.{input_limit}
 use Rattle.sd_script.specs.Grammar.{lines, without_feed}
 use Rattle.sd_script.proofs.ScriptLemmas.{IsNextLine, concat-snoc}

@@ -3,7 +3,7 @@ use Rattle.std.specs.Prelude.{◌≡◌, ◌⊎◌, ℕ, ◌+◌, List, [], ◌�
 use Rattle.std.specs.Fmt.{decimal}
 use Rattle.sd_config.specs.declared.config.SwapLine.{SwapLine}
 use Rattle.sd_link.specs.Lawful.{IsFrontOf}
-use Rattle.sd_link.specs.Runs.{runs_text}
+use Rattle.sd_text.specs.Runs.{runs_text}
 use Rattle.sd_stable_disk.specs.Image.{opens, holds, new_image, zero_files}
 use Rattle.sd_stable_disk.specs.declared.errors.OpenError.{OpenError}
 use Rattle.sd_stable_disk.specs.declared.errors.OpenError.TheVariants.{Damaged, Version}

@@ -3,12 +3,11 @@ use Rattle.std.specs.Prelude.{◌≡◌, ◌⊎◌, ℕ, ◌+◌, ◌<◌, ◌�
 use Rattle.std.specs.List.{concat}
 use Rattle.std.specs.Fmt.{decimal}
 use Rattle.sd_outside.specs.declared.packet.Packet.{Packet}
-use Rattle.sd_link.specs.Printing.{packet_text}
-use Rattle.sd_link.specs.Texts.{Text}
+use Rattle.sd_text.specs.Packets.{packet_text, IsPacketLine}
+use Rattle.sd_text.specs.Texts.{Text}
 use Rattle.sd_link.specs.Lawful.{IsFrontOf}
 use Rattle.sd_script.specs.Grammar.{lines, without_feed}
 use Rattle.sd_script.specs.Limits.{input_limit}
-use Rattle.sd_script.specs.Packets.{IsPacketLine}
 use Rattle.sd_show.specs.declared.error.Word.{Word}
 use Rattle.sd_show.specs.declared.error.ShowError.{ShowError}
 use Rattle.sd_show.specs.declared.error.ShowError.TheVariants as errors

@@ -1,10 +1,12 @@
 //! The worked rows, from input to output and status.
 
 mod boots;
+mod examples;
 mod images;
 mod texts;
 
 use super::*;
+use examples::EXAMPLES;
 use sd_outside::{ByteList, CalmSink, CalmSource, MemSink, MemSource};
 use std::alloc::Global;
 use std::test::Fail;
@@ -107,6 +109,16 @@ fn plays_the_rows(rt: HostRuntime) -> Result<(), Fail> {
         ROW_0, ROW_1, ROW_2, ROW_3, ROW_4, ROW_5, ROW_6, ROW_7, ROW_8,
     ];
     for row in &rows {
+        let (status, output) = ran(rt.alloc(), &["replay"], row.input)?;
+        assert_eq!(rt; status, row.status);
+        assert_eq!(rt; output.as_slice(), row.output);
+    }
+    Ok(())
+}
+
+#[test]
+fn plays_the_examples(rt: HostRuntime) -> Result<(), Fail> {
+    for row in &EXAMPLES {
         let (status, output) = ran(rt.alloc(), &["replay"], row.input)?;
         assert_eq!(rt; status, row.status);
         assert_eq!(rt; output.as_slice(), row.output);

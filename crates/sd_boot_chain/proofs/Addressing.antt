@@ -5,16 +5,17 @@ use Rattle.sd_config.specs.declared.config.Config.{Config}
 use Rattle.sd_config.specs.declared.config.ClientConfig.{ClientConfig}
 use Rattle.sd_config.specs.declared.stage.Stage.TheVariants as stage
 use Rattle.sd_config.specs.Config.{IsFor}
+use Rattle.sd_link.specs.Link.{IsSettledBy}
 use Rattle.sd_link.specs.Steps.{Step, History}
 use Rattle.sd_link.specs.Tries.{Answered, Flooded, TimedOut}
 use Rattle.sd_config.specs.declared.told.Told.TheVariants.{AddrOk, AddrTimeout, AddrFlood}
 use Rattle.sd_claims.specs.Rarp.{rarp_request, rarp_hearing}
-use Rattle.sd_claims.specs.Causes.{TellsAddress, AddressTimedOut, AddressFlooded}
-use Rattle.sd_claims.specs.Ending.{EndsAfter}
+use Rattle.sd_claims.specs.Booting.{LearnsAddress}
+use Rattle.sd_claims.specs.Causes.{addr_ok, addr_timeout, addr_flood, AddressTimedOut, AddressFlooded}
 use Rattle.sd_rpc_retry.specs.Asking.{IsAsked}
 use Rattle.sd_rpc_retry.specs.declared.asking.Asked.{Asked}
 use Rattle.sd_rpc_retry.specs.declared.asking.Asked.TheVariants.{Answer, Timeout, Flood}
-use Rattle.sd_boot_chain.specs.Address.{shows_learned}
+use Rattle.sd_boot_chain.specs.Address.{shows_learned, IsAddrAnswer}
 use Rattle.sd_boot_chain.specs.declared.address.Learned as code
 
 -- what holds of the client's configuration holds of the whole one
@@ -27,23 +28,23 @@ abbrev pub AsksAddress : ClientConfig → Asked code.Learned → History → Lis
 AsksAddress client what old part = IsAsked (rarp_request client.mac) (rarp_hearing client.mac) shows_learned client.tries client.wait what old part
 
 module _ (client : ClientConfig) (h : History) (part : List Step) (is : IsFor h.config client) where
-  pub told_address : (learned : code.Learned) → AsksAddress client (Answer learned) h part → Answered (rarp_request h.config.client.mac) (rarp_hearing h.config.client.mac) h.config.tries h.config.wait (shows_learned learned) part
-  told_address learned a = as_config h.config client (λ m tries wait. Answered (rarp_request m) (rarp_hearing m) tries wait (shows_learned learned) part) is a.came
+  pub told_address : (learned : code.Learned) → AsksAddress client (Answer learned) h part → LearnsAddress (IsSettledBy h) h.config (shows_learned learned) part
+  told_address learned a = as_config h.config client (λ m tries wait. Answered (IsSettledBy h) (rarp_request m) (rarp_hearing m) tries wait (shows_learned learned) part) is a.came
 
-  pub address_told : (learned : code.Learned) → AsksAddress client (Answer learned) h part → TellsAddress h.config learned.address part × EndsAfter h (AddrOk learned.address) part
-  address_told learned a = (
-    (shows_learned learned, refl, told_address learned a),
-    ((a.came.ends.before, a.came.ends.id, a.came.ends.packet, a.came.ends.cut), λ was. a.ended (λ packet. refl) was),
-  )
+  pub address_vain : AsksAddress client Timeout h part → AddressTimedOut (IsSettledBy h) h.config part
+  address_vain a = as_config h.config client (λ m tries wait. TimedOut (IsSettledBy h) (rarp_request m) (rarp_hearing m) tries wait part) is a.came
 
-  pub address_timeout : AsksAddress client Timeout h part → AddressTimedOut h.config part × EndsAfter h AddrTimeout part
-  address_timeout a = (
-    as_config h.config client (λ m tries wait. TimedOut (rarp_request m) (rarp_hearing m) tries wait part) is a.came,
-    λ was. a.ended (λ packet. refl) was,
-  )
+  pub address_full : AsksAddress client Flood h part → AddressFlooded (IsSettledBy h) h.config part
+  address_full a = as_config h.config client (λ m tries wait. Flooded (IsSettledBy h) (rarp_request m) (rarp_hearing m) tries wait part) is a.came
 
-  pub address_flood : AsksAddress client Flood h part → AddressFlooded h.config part × EndsAfter h (AddrFlood stage.Rarp) part
-  address_flood a = (
-    as_config h.config client (λ m tries wait. Flooded (rarp_request m) (rarp_hearing m) tries wait part) is a.came,
-    λ was. a.ended (λ packet. refl) was,
-  )
+pub address_told : (client : ClientConfig) (h : History) (part : List Step) (learned : code.Learned) → AsksAddress client (Answer learned) h part → IsAddrAnswer client (AddrOk learned.address) h part
+address_told client h part learned a is = (
+  λ n. addr_ok (shows_learned learned) part (told_address client h part is learned a),
+  ((a.came.ends.before, a.came.ends.id, a.came.ends.packet, a.came.ends.cut), λ was. a.ended (λ packet. refl) was),
+)
+
+pub address_timeout : (client : ClientConfig) (h : History) (part : List Step) → AsksAddress client Timeout h part → IsAddrAnswer client AddrTimeout h part
+address_timeout client h part a is = (λ n. addr_timeout part (address_vain client h part is a), λ was. a.ended (λ packet. refl) was)
+
+pub address_flood : (client : ClientConfig) (h : History) (part : List Step) → AsksAddress client Flood h part → IsAddrAnswer client (AddrFlood stage.Rarp) h part
+address_flood client h part a is = (λ n. addr_flood part (address_full client h part is a), λ was. a.ended (λ packet. refl) was)

@@ -16,16 +16,16 @@ use Rattle.sd_link.specs.World.{World, Sender, Client, Server, start}
 use Rattle.sd_link.specs.Steps.{Step, Get, run, AllAllowed}
 use Rattle.sd_link.specs.Parts.{sends_in, got_in}
 use Rattle.sd_link.specs.Requests.{AsksOnlyFor, IsRpcPort, KeepsOffRpc}
-use Rattle.sd_link.specs.Tries.{Answered}
+use Rattle.sd_link.specs.Tries.{EndsMatched}
 use Rattle.sd_link.proofs.InFlight.{IsTftpPort, SentFine, FlyingFine, Keeps}
 use Rattle.sd_config.proofs.Lists.{all_always, all_at, all_weaker}
 use Rattle.sd_services.proofs.NoRequests.{ack_asks_not, error_asks_not}
 use Rattle.sd_link.proofs.FromServer.{AnyPacket, AnySession}
 use Rattle.sd_config.specs.declared.command.Command.{Command}
 use Rattle.sd_config.specs.declared.told.Told.{Told}
-use Rattle.sd_claims.specs.Rarp.{Learned, rarp_request, rarp_hearing, learned_in, learned_from}
+use Rattle.sd_claims.specs.Rarp.{Learned, learned_in, learned_from}
 use Rattle.sd_claims.specs.Booting.{Counts, boot_fetch}
-use Rattle.sd_claims.specs.Causes.{IsCaused}
+use Rattle.sd_claims.specs.Causes.{Cause}
 use Rattle.sd_boot_chain.proofs.Fetched.{got_cut}
 use Rattle.sd_boot_chain.proofs.FetchSends.{Sends}
 use Rattle.sd_boot_chain.proofs.PartSends.{SendsAll, part_sends}
@@ -87,9 +87,9 @@ learned_right c is (Frame bytes) learned tells e = learned_if c (is_mac c.client
 learned_right c is (Udp src dst body) learned tells e = absurd (cc)
 
 -- What the client learns from the server is its own address and the server's.
-pub answered_right : (c : Config) (is : IsConfig c) (learned : Learned) (part : List Step) → Answered (rarp_request c.client.mac) (rarp_hearing c.client.mac) c.tries c.wait learned part → AllByRecursion (IsSent c is) (got_in part) → LearnedRight c learned
+pub answered_right : (c : Config) (is : IsConfig c) (learned : Learned) (part : List Step) → EndsMatched (learned_from c.client.mac) learned part → AllByRecursion (IsSent c is) (got_in part) → LearnedRight c learned
 answered_right c is learned part h all =
-    learned_right c is h.ends.packet learned (got_cut (IsSent c is) part h.ends.before (Get h.ends.id h.ends.packet ∷ []) h.ends.cut all).1.0 h.ends.matched
+    learned_right c is h.packet learned (got_cut (IsSent c is) part h.before (Get h.id h.packet ∷ []) h.cut all).1.0 h.matched
 
 module _ (c : Config) (is : IsConfig c) where
   -- ---- what it sends
@@ -146,8 +146,8 @@ module _ (c : Config) (is : IsConfig c) where
     calls = λ boots learned t xid call from to body e m rpc. let low : 1021 ≡ from.port = ap (λ (a : Addr). a.port) (udp_parts _ _ from to _ body e).0 in absurd (omega (arith, low, m.1));
   }
 
-  quiet_sends : (n : Counts) (command : Command) (answer : Told) (part : List Step) → IsCaused c n command answer part → AllByRecursion Quiet (sends_in part)
-  quiet_sends n command answer part caused = part_sends c Quiet AnyPacket AnyAddr quiet_all n command answer part caused (all_always AnyPacket (got_in part) (λ p. tt))
+  quiet_sends : (settled : List Step → Type 0) (n : Counts) (command : Command) (answer : Told) (part : List Step) → Cause settled c n command answer part → AllByRecursion Quiet (sends_in part)
+  quiet_sends settled n command answer part caused = part_sends c Quiet AnyPacket AnyAddr quiet_all settled n command answer part caused (all_always AnyPacket (got_in part) (λ p. tt))
 
   -- what the client sends is so
   clients_quiet : (packet : Packet) → IsClients c packet → Quiet packet
@@ -166,22 +166,22 @@ module _ (c : Config) (is : IsConfig c) where
   honest_start = (tt, tt)
 
   -- What the client gets in a command is the server's.
-  pub honest_got : (w : World) (n : Counts) (command : Command) (answer : Told) (part : List Step) → IsHonest c is w → AllAllowed c w part → IsCaused c n command answer part → AllByRecursion (IsSent c is) (got_in part)
+  pub honest_got : (settled : List Step → Type 0) (w : World) (n : Counts) (command : Command) (answer : Told) (part : List Step) → IsHonest c is w → AllAllowed c w part → Cause settled c n command answer part → AllByRecursion (IsSent c is) (got_in part)
   unfolding Quiet
-  honest_got w n command answer part h allowed caused =
+  honest_got settled w n command answer part h allowed caused =
       let quiet : Keeps Quiet (IsSent c is) AnySession w =
       (all_weaker (FlyingFine (IsClients c) (IsSent c is)) (FlyingFine Quiet (IsSent c is)) w.flight (λ f k. quiet_sent f.from f.packet k) h.0, h.1) in
-      quiet_got c is (Fetches c) (fetches_away c is) Quiet (λ packet q. q) w part quiet (quiet_sends n command answer part caused) allowed
+      quiet_got c is (Fetches c) (fetches_away c is) Quiet (λ packet q. q) w part quiet (quiet_sends settled n command answer part caused) allowed
 
   -- So what it sends is as it should be.
-  pub sends_right : (w : World) (n : Counts) (command : Command) (answer : Told) (part : List Step) → IsHonest c is w → AllAllowed c w part → IsCaused c n command answer part → AllByRecursion (IsClients c) (sends_in part)
-  sends_right w n command answer part h allowed caused = part_sends c (IsClients c) (IsSent c is) (IsServersAddr c) sends_all n command answer part caused (honest_got w n command answer part h allowed caused)
+  pub sends_right : (settled : List Step → Type 0) (w : World) (n : Counts) (command : Command) (answer : Told) (part : List Step) → IsHonest c is w → AllAllowed c w part → Cause settled c n command answer part → AllByRecursion (IsClients c) (sends_in part)
+  sends_right settled w n command answer part h allowed caused = part_sends c (IsClients c) (IsSent c is) (IsServersAddr c) sends_all settled n command answer part caused (honest_got settled w n command answer part h allowed caused)
 
   -- After a command's part the world is so too.
-  pub honest_part : (w : World) (n : Counts) (command : Command) (answer : Told) (part : List Step) → IsHonest c is w → AllAllowed c w part → IsCaused c n command answer part → IsHonest c is (run c w part)
+  pub honest_part : (settled : List Step → Type 0) (w : World) (n : Counts) (command : Command) (answer : Told) (part : List Step) → IsHonest c is w → AllAllowed c w part → Cause settled c n command answer part → IsHonest c is (run c w part)
   unfolding Quiet
-  honest_part w n command answer part h allowed caused =
-      quiet_run c is (Fetches c) (fetches_away c is) (IsClients c) clients_quiet w part h (sends_right w n command answer part h allowed caused)
+  honest_part settled w n command answer part h allowed caused =
+      quiet_run c is (Fetches c) (fetches_away c is) (IsClients c) clients_quiet w part h (sends_right settled w n command answer part h allowed caused)
 
   -- No other file than the boot program was ever asked for from where files are fetched.
   clients_ask : (from : Sender) (me to : Addr) (body asked mode : List ℕ) → Fetches c me → SentFine (IsClients c) (IsSent c is) from (Udp me to body) → reading body ≡ Ok (Rrq asked mode) → asked ≡ program_name c.arch c.client.ip

@@ -15,7 +15,8 @@ use Rattle.sd_tftp.specs.ReceiverTurn.{Turn, turn, ignored}
 use Rattle.sd_tftp.proofs.Receives.{receiving_is_turn}
 use Rattle.sd_link.specs.Steps.{Step, Send}
 use Rattle.sd_link.specs.Parts.{sends_in, got_in}
-use Rattle.sd_link.specs.Tries.{IsTries}
+use Rattle.sd_link.specs.Tries.{RepliesAtOnce, IsTries}
+use Rattle.sd_link.proofs.AtOnce.{replied_sends}
 use Rattle.sd_link.proofs.Histories.{sends-append}
 use Rattle.sd_config.proofs.Lists.{all_append}
 use Rattle.sd_claims.specs.Fetching.{Fetch, Takes, takes_none, takes_block, Fetched, Stops, read_request, acknowledge, turn_away, asked_by, request_of, turn_by, turn_on, courtesy, fetch_hearing}
@@ -30,13 +31,13 @@ replies_send S G replies so [] all = tt
 replies_send S G replies so (p ∷ ps) all = all_append S (replies p) (flat_map replies ps) (so p all.0) (replies_send S G replies so ps all.1)
 
 module _ (S G : Packet → Type 0) (request : Packet) (replies : Packet → List Packet) (asks : S request) (so : (p : Packet) → G p → AllByRecursion S (replies p)) where
-  rests_send : (rests : List (List Step)) → AllByRecursion (λ rest. sends_in rest ≡ flat_map replies (got_in rest)) rests → AllByRecursion G (got_in (flat_map (λ rest. Send request ∷ rest) rests))
+  rests_send : (rests : List (List Step)) → AllByRecursion (RepliesAtOnce replies) rests → AllByRecursion G (got_in (flat_map (λ rest. Send request ∷ rest) rests))
       → AllByRecursion S (sends_in (flat_map (λ rest. Send request ∷ rest) rests))
   rests_send [] replied all = tt
   rests_send (rest ∷ rests) replied all =
       let more : List Step = flat_map (λ rest. Send request ∷ rest) rests in
       let g = got_split G rest more all in
-      let own : AllByRecursion S (sends_in rest) = subst (λ (l : List Packet). AllByRecursion S l) (sym replied.0) (replies_send S G replies so (got_in rest) g.0) in
+      let own : AllByRecursion S (sends_in rest) = subst (λ (l : List Packet). AllByRecursion S l) (sym (replied_sends replies rest replied.0)) (replies_send S G replies so (got_in rest) g.0) in
       (asks, subst (λ (l : List Packet). AllByRecursion S l) (sym (sends-append rest more)) (all_append S (sends_in rest) (sends_in more) own (rests_send rests replied.1 g.1)))
 
   -- all that tries send: the request, and the replies to what was got
@@ -112,7 +113,7 @@ module _ (f : Fetch) (S G : Packet → Type 0) (A : Addr → Type 0) (k : Sends 
       let source : from.port ≡ port = cc in
       same_addr from t.becomes.server port server source (from_heard r t m)
 
-  pub takes_send : {part : List Step} {r : Reception} → Takes f part r → AllByRecursion G (got_in part) → AllByRecursion S (sends_in part) × PeerFine r
+  pub takes_send : {settled : List Step → Type 0} {part : List Step} {r : Reception} → Takes settled f part r → AllByRecursion G (got_in part) → AllByRecursion S (sends_in part) × PeerFine r
   takes_send takes_none all = (tt, λ port e. absurd (cc))
   takes_send (takes_block part more r t before brings next) all =
       let g = got_split G part more all in
@@ -123,7 +124,7 @@ module _ (f : Fetch) (S G : Packet → Type 0) (A : Addr → Type 0) (k : Sends 
       )
 
   -- all that a fetch sends
-  pub fetched_sends : (bytes : List ℕ) (part : List Step) → Fetched f bytes part → AllByRecursion G (got_in part) → AllByRecursion S (sends_in part)
+  pub fetched_sends : {settled : List Step → Type 0} (bytes : List ℕ) (part : List Step) → Fetched settled f bytes part → AllByRecursion G (got_in part) → AllByRecursion S (sends_in part)
   fetched_sends bytes part h all =
       let last = Send (acknowledge f.me h.to h.number) ∷ [] in
       let g = got_cut G part h.before (h.last ++ last) h.cut all in
@@ -138,12 +139,12 @@ module _ (f : Fetch) (S G : Packet → Type 0) (A : Addr → Type 0) (k : Sends 
       (all_append S (sends_in h.before) (sends_in h.last ++ sends_in last) t.0 (all_append S (sends_in h.last) (sends_in last) final (ends, tt))))
 
   -- and all that one sends that stops
-  pub stops_send : (why : Reception → List Step → Type 0) → ((r : Reception) (last : List Step) → why r last → (rests : List (List Step)) × IsTries (request_of f r) (fetch_hearing f.me r).replies rests last)
-      → (part : List Step) → Stops f why part → AllByRecursion G (got_in part) → AllByRecursion S (sends_in part)
+  pub stops_send : {settled : List Step → Type 0} (why : (List Step → Type 0) → Reception → List Step → Type 0) → ((still : List Step → Type 0) (r : Reception) (last : List Step) → why still r last → (rests : List (List Step)) × IsTries (request_of f r) (fetch_hearing f.me r).replies rests last)
+      → (part : List Step) → Stops settled f why part → AllByRecursion G (got_in part) → AllByRecursion S (sends_in part)
   stops_send why tries part h all =
       let g = got_cut G part h.before h.last h.cut all in
       let t = takes_send h.takes g.0 in
-      let is = tries h.taken h.last h.stopped in
+      let is = tries _ h.taken h.last h.stopped in
       subst (λ (p : List Step). AllByRecursion S (sends_in p)) (sym h.cut)
       (subst (λ (p : List Packet). AllByRecursion S p) (sym (sends-append h.before h.last))
       (all_append S (sends_in h.before) (sends_in h.last) t.0 (fetch_tries h.taken is.0 h.last t.1 is.1 g.1)))

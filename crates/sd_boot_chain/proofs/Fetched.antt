@@ -34,7 +34,7 @@ pub record Moved (f : Fetch) (r : Reception) (t : Turn) (P : Packet → Type 0) 
   pub turned_on : Turned f.me r packet t
   pub holds : P packet
 
-pub moved_by : (P : Packet → Type 0) (f : Fetch) (r : Reception) (t : Turn) (part : List Step) → Brings f r t part → AllByRecursion P (got_in part) → Moved f r t P
+pub moved_by : {settled : List Step → Type 0} (P : Packet → Type 0) (f : Fetch) (r : Reception) (t : Turn) (part : List Step) → Brings settled f r t part → AllByRecursion P (got_in part) → Moved f r t P
 moved_by P f r t part b all = record {
   packet = b.ends.packet;
   turned_on = turned f.me r b.ends.packet t b.ends.matched;
@@ -88,7 +88,7 @@ module _ (c : Config) (f : Fetch) (file : List ℕ) (is : boot_file c f.name ≡
       (one_more_block file 1 r.blocks t.body are (t.of.is ∙ ap (λ (l : List ℕ). block_at l t.number) same ∙ ap (λ (n : ℕ). block_at file n) next))
 
   -- the blocks taken so far are the file's
-  pub taken_blocks : {part : List Step} {r : Reception} → Takes f part r → AllByRecursion (Carries c f.me f.name) (got_in part) → AreBlocksOf file 1 r.blocks
+  pub taken_blocks : {settled : List Step → Type 0} {part : List Step} {r : Reception} → Takes settled f part r → AllByRecursion (Carries c f.me f.name) (got_in part) → AreBlocksOf file 1 r.blocks
   taken_blocks takes_none all = tt
   taken_blocks (takes_block part more r t before brings next) all =
       let s = got_split (Carries c f.me f.name) part more all in
@@ -96,7 +96,7 @@ module _ (c : Config) (f : Fetch) (file : List ℕ) (is : boot_file c f.name ≡
       (taken_by c f r t next.0 next.1 false next.2 (moved_by (Carries c f.me f.name) f r t more brings s.1))
 
 -- What was fetched is the configured file, where each block that came was that file's.
-pub fetched_file : (c : Config) (f : Fetch) (bytes : List ℕ) (part : List Step) → Fetched f bytes part → AllByRecursion (Carries c f.me f.name) (got_in part) → boot_file c f.name ≡ Some bytes
+pub fetched_file : {settled : List Step → Type 0} (c : Config) (f : Fetch) (bytes : List ℕ) (part : List Step) → Fetched settled f bytes part → AllByRecursion (Carries c f.me f.name) (got_in part) → boot_file c f.name ≡ Some bytes
 fetched_file c f bytes part h all =
     let P = Carries c f.me f.name in
     let s = got_cut P part h.before (h.last ++ Send (acknowledge f.me h.to h.number) ∷ []) h.cut all in

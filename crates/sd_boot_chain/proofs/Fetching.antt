@@ -1,16 +1,20 @@
 -- A fetch, block after block.
-use Rattle.std.proofs.Common.{◌≡◌, ◌≢◌, ◌≤◌, ℕ, ◌+◌, ◌<◌, true, false, List, [], ◌∷◌, ◌++◌, length, Option, refl, sym, ◌∙◌, ap, subst, arith, append_assoc, length-append}
+use Rattle.std.proofs.Common.{◌≡◌, ◌≢◌, ◌≤◌, ℕ, ◌+◌, ◌<◌, Bool, true, false, List, [], ◌∷◌, ◌++◌, length, Option, refl, sym, ◌∙◌, ap, subst, arith, append_assoc, length-append}
 use Rattle.sd_outside.specs.declared.packet.Addr.{Addr}
 use Rattle.sd_outside.specs.declared.packet.Packet.{Packet}
+use Rattle.sd_tftp.specs.declared.step.Step as answers
 use Rattle.sd_tftp.specs.declared.step.Step.TheVariants as step
+use Rattle.sd_tftp.specs.ReceiverTurn.{Turn}
 use Rattle.sd_tftp.specs.Reception.{Reception, fresh, with_block}
 use Rattle.sd_link.specs.Steps.{Step, Send, History}
-use Rattle.sd_link.specs.Link.{Moves}
+use Rattle.sd_link.specs.Link.{GoesOn, Moves, IsSettledBy}
+use Rattle.sd_link.specs.Tries.{beyond, TimedOut, Flooded}
 use Rattle.sd_link.proofs.Histories.{moves_not, moves_then}
 use Rattle.sd_claims.specs.Fetching.{Fetch, Takes, takes_none, takes_block, Brings, request_of, acknowledge, fetch_hearing}
 use Rattle.sd_rpc_retry.specs.declared.asking.Asked.{Asked}
 use Rattle.sd_rpc_retry.specs.declared.asking.Asked.TheVariants as asked
 use Rattle.sd_rpc_retry.specs.Asking.{IsAsked, IsAnswer}
+use Rattle.sd_rpc_retry.proofs.Settling.{settled-beyond}
 use Rattle.sd_boot_chain.specs.declared.fetch.Progress.{Progress}
 use Rattle.sd_boot_chain.specs.declared.fetch.Progress.TheVariants as moves
 use Rattle.sd_boot_chain.specs.declared.fetch.Fetched as outcomes
@@ -20,7 +24,7 @@ use Rattle.sd_boot_chain.proofs.Turned.{turned, took_block}
 
 -- so much was taken
 abbrev pub HasTaken : Fetch → Reception → History → List Step → Type 0
-HasTaken f r old part = Takes f part r
+HasTaken f r old part = Takes (IsSettledBy old) f part r
 
 -- a request of the fetch was asked
 abbrev pub AsksNext : Fetch → Reception → Reception → Asked Progress → History → List Step → Type 0
@@ -37,47 +41,72 @@ asks_next f old new request me r s what shown is mine same m =
 pub takes_first : (f : Fetch) (r : Reception) (old : Option History) → r ≡ fresh f.server → Moves old old (HasTaken f r)
 takes_first f r old is = subst (λ s. Moves old old (HasTaken f s)) (sym is) (moves_not old (HasTaken f (fresh f.server)) (λ h. takes_none))
 
+-- a turn, by what it says and the receiver then
+abbrev turned_to : answers.Step → Reception → Turn
+turned_to says s = record { says = says; becomes = s }
+
+abbrev took : Addr → ℕ → Bool → Reception → Turn
+took to n last s = record { says = step.Took to n last; becomes = s }
+
+-- what came after other steps
+brought : (a b : History) (xs ys : List Step) → GoesOn a b xs → (f : Fetch) (r : Reception) (t : Turn) → Brings (IsSettledBy b) f r t ys → Brings (beyond (IsSettledBy a) xs) f r t ys
+brought a b xs ys goes f r t h = subst (λ (still : List Step → Type 0). Brings still f r t ys) (settled-beyond a b xs goes) h
+
 module _ (f : Fetch) (old mid new : Option History) (r s : Reception) (first : Moves old mid (HasTaken f r)) where
   pub takes_more : (to : Addr) (n : ℕ) → Moves mid new (AsksNext f r s (asked.Answer (moves.Block to n false))) → Moves old new (HasTaken f s)
   takes_more to n second =
       moves_then old mid new (HasTaken f r) (AsksNext f r s (asked.Answer (moves.Block to n false))) (HasTaken f s)
-      (λ a b xs ys goes t k. takes_block xs ys r (record { says = step.Took to n false; becomes = s }) t k.came (to, n, refl)) first second
+      (λ a b xs ys goes t k. takes_block xs ys r (took to n false s) t (brought a b xs ys goes f r (took to n false s) k.came) (to, n, refl)) first second
 
-  pub came_timeout : Moves mid new (AsksNext f r s asked.Timeout) → Moves old new (λ h part. CameOf f came.Timeout part)
+  pub came_timeout : Moves mid new (AsksNext f r s asked.Timeout) → Moves old new (CameOf f came.Timeout)
   came_timeout second =
-      moves_then old mid new (HasTaken f r) (AsksNext f r s asked.Timeout) (λ h part. CameOf f came.Timeout part)
-      (λ a b xs ys goes t k. record { before = xs; last = ys; taken = r; takes = t; stopped = k.came; cut = refl }) first second
+      moves_then old mid new (HasTaken f r) (AsksNext f r s asked.Timeout) (CameOf f came.Timeout)
+      (λ a b xs ys goes t k. record {
+        before = xs;
+        last = ys;
+        taken = r;
+        takes = t;
+        stopped = subst (λ (still : List Step → Type 0). TimedOut still (request_of f r) (fetch_hearing f.me r) f.tries f.wait ys) (settled-beyond a b xs goes) k.came;
+        cut = refl;
+      }) first second
 
-  pub came_flood : Moves mid new (AsksNext f r s asked.Flood) → Moves old new (λ h part. CameOf f came.Flood part)
+  pub came_flood : Moves mid new (AsksNext f r s asked.Flood) → Moves old new (CameOf f came.Flood)
   came_flood second =
-      moves_then old mid new (HasTaken f r) (AsksNext f r s asked.Flood) (λ h part. CameOf f came.Flood part)
-      (λ a b xs ys goes t k. record { before = xs; last = ys; taken = r; takes = t; stopped = k.came; cut = refl }) first second
+      moves_then old mid new (HasTaken f r) (AsksNext f r s asked.Flood) (CameOf f came.Flood)
+      (λ a b xs ys goes t k. record {
+        before = xs;
+        last = ys;
+        taken = r;
+        takes = t;
+        stopped = subst (λ (still : List Step → Type 0). Flooded still (request_of f r) (fetch_hearing f.me r) f.tries f.wait ys) (settled-beyond a b xs goes) k.came;
+        cut = refl;
+      }) first second
 
-  pub came_refused : (code : ℕ) → Moves mid new (AsksNext f r s (asked.Answer (moves.Refused code))) → Moves old new (λ h part. CameOf f (came.Refused code) part)
+  pub came_refused : (code : ℕ) → Moves mid new (AsksNext f r s (asked.Answer (moves.Refused code))) → Moves old new (CameOf f (came.Refused code))
   came_refused code second =
-      moves_then old mid new (HasTaken f r) (AsksNext f r s (asked.Answer (moves.Refused code))) (λ h part. CameOf f (came.Refused code) part)
-      (λ a b xs ys goes t k. record { before = xs; last = ys; taken = r; takes = t; stopped = (record { says = step.Refused code; becomes = s }, k.came, refl); cut = refl }) first second
+      moves_then old mid new (HasTaken f r) (AsksNext f r s (asked.Answer (moves.Refused code))) (CameOf f (came.Refused code))
+      (λ a b xs ys goes t k. record { before = xs; last = ys; taken = r; takes = t; stopped = (turned_to (step.Refused code) s, brought a b xs ys goes f r (turned_to (step.Refused code) s) k.came, refl); cut = refl }) first second
 
-  pub came_large : (got : ℕ) → Moves mid new (AsksNext f r s (asked.Answer (moves.Over got))) → Moves old new (λ h part. CameOf f (came.TooLarge got) part)
+  pub came_large : (got : ℕ) → Moves mid new (AsksNext f r s (asked.Answer (moves.Over got))) → Moves old new (CameOf f (came.TooLarge got))
   came_large got second =
-      moves_then old mid new (HasTaken f r) (AsksNext f r s (asked.Answer (moves.Over got))) (λ h part. CameOf f (came.TooLarge got) part)
-      (λ a b xs ys goes t k. record { before = xs; last = ys; taken = r; takes = t; stopped = (record { says = step.Over got; becomes = s }, k.came, refl); cut = refl }) first second
+      moves_then old mid new (HasTaken f r) (AsksNext f r s (asked.Answer (moves.Over got))) (CameOf f (came.TooLarge got))
+      (λ a b xs ys goes t k. record { before = xs; last = ys; taken = r; takes = t; stopped = (turned_to (step.Over got) s, brought a b xs ys goes f r (turned_to (step.Over got) s) k.came, refl); cut = refl }) first second
 
 -- the last block came
 pub record HasLast (f : Fetch) (s : Reception) (to : Addr) (n : ℕ) (old : History) (part : List Step) : Type 0 where
   pub before : List Step
   pub last : List Step
   pub taken : Reception
-  pub takes : Takes f before taken
-  pub brings : Brings f taken (record { says = step.Took to n true; becomes = s }) last
+  pub takes : Takes (IsSettledBy old) f before taken
+  pub brings : Brings (beyond (IsSettledBy old) before) f taken (record { says = step.Took to n true; becomes = s }) last
   pub cut : part ≡ before ++ last
 
 pub has_last : (f : Fetch) (old mid new : Option History) (r s : Reception) (to : Addr) (n : ℕ) → Moves old mid (HasTaken f r) → Moves mid new (AsksNext f r s (asked.Answer (moves.Block to n true))) → Moves old new (HasLast f s to n)
 has_last f old mid new r s to n first second =
     moves_then old mid new (HasTaken f r) (AsksNext f r s (asked.Answer (moves.Block to n true))) (HasLast f s to n)
-    (λ a b xs ys goes t k. record { before = xs; last = ys; taken = r; takes = t; brings = k.came; cut = refl }) first second
+    (λ a b xs ys goes t k. record { before = xs; last = ys; taken = r; takes = t; brings = brought a b xs ys goes f r (took to n true s) k.came; cut = refl }) first second
 
-finishes_is : (f : Fetch) (s : Reception) (to : Addr) (n : ℕ) (request : Packet) → request ≡ acknowledge f.me to n → (what : outcomes.Fetched) (a b : History) (xs ys : List Step) → HasLast f s to n a xs → Finishes request s what b ys → CameOf f what (xs ++ ys)
+finishes_is : (f : Fetch) (s : Reception) (to : Addr) (n : ℕ) (request : Packet) → request ≡ acknowledge f.me to n → (what : outcomes.Fetched) (a b : History) (xs ys : List Step) → HasLast f s to n a xs → Finishes request s what b ys → CameOf f what a (xs ++ ys)
 finishes_is f s to n request is (came.File bytes) a b xs ys h k = record {
   before = h.before;
   last = h.last;
@@ -101,9 +130,9 @@ finishes_is f s to n request is (came.TooLarge got) a b xs ys h k = absurd k
 finishes_is f s to n request is came.Fault a b xs ys h k = tt
 
 pub came_last : (f : Fetch) (old mid new : Option History) (s : Reception) (to : Addr) (n : ℕ) (request : Packet) (what : outcomes.Fetched) → request ≡ acknowledge f.me to n
-    → Moves old mid (HasLast f s to n) → Moves mid new (Finishes request s what) → Moves old new (λ h part. CameOf f what part)
+    → Moves old mid (HasLast f s to n) → Moves mid new (Finishes request s what) → Moves old new (CameOf f what)
 came_last f old mid new s to n request what is first second =
-    moves_then old mid new (HasLast f s to n) (Finishes request s what) (λ h part. CameOf f what part)
+    moves_then old mid new (HasLast f s to n) (Finishes request s what) (CameOf f what)
     (λ a b xs ys goes h k. finishes_is f s to n request is what a b xs ys h k) first second
 
 -- ---- what a block makes of the receiver

@@ -141,7 +141,7 @@ module _ (c : Config) (is : IsConfig c) (f : Fetch) (apart : f.me.ip ≢ c.serve
   quiet_sent Server packet h = h
 
   -- After a fetch nothing was sent from there to the RPC ports.
-  pub kept_off : (before part : List Step) (bytes : List ℕ) → KeepsOffRpc f.me (run c (start c) before) → AllAllowed c (run c (start c) before) part → Fetched f bytes part → KeepsOffRpc f.me (run c (run c (start c) before) part)
+  pub kept_off : {settled : List Step → Type 0} (before part : List Step) (bytes : List ℕ) → KeepsOffRpc f.me (run c (start c) before) → AllAllowed c (run c (start c) before) part → Fetched settled f bytes part → KeepsOffRpc f.me (run c (run c (start c) before) part)
   unfolding Quiet Told
   kept_off before part bytes off allowed came =
       let w = run c (start c) before in
@@ -174,7 +174,7 @@ got_there c w (End number ∷ steps) all = got_there c (after c w (End number)) 
 got_there c w (Get id packet ∷ steps) all = let f = all.0.0 in (subst (ToClient c) all.0.3 (goes_there c f.from f.packet all.0.2), got_there c w steps all.1)
 
 -- A file came to the client's address.
-pub fetched_there : (c : Config) (w : World) (f : Fetch) (bytes : List ℕ) (part : List Step) → AllAllowed c w part → Fetched f bytes part → f.me.ip ≡ c.client.ip
+pub fetched_there : {settled : List Step → Type 0} (c : Config) (w : World) (f : Fetch) (bytes : List ℕ) (part : List Step) → AllAllowed c w part → Fetched settled f bytes part → f.me.ip ≡ c.client.ip
 fetched_there c w f bytes part allowed h =
     let last = Send (acknowledge f.me h.to h.number) ∷ [] in
     let s = got_cut (ToClient c) part h.before (h.last ++ last) h.cut (got_there c w part allowed) in

@@ -7,7 +7,9 @@ use Rattle.sd_link.proofs.Histories.{moves_weaker}
 use Rattle.sd_link.specs.Tries.{flood_limit}
 use Rattle.sd_boot_chain.specs.declared.pause.Pause.{Pause}
 use Rattle.sd_boot_chain.specs.declared.pause.Pause.TheVariants.{Over, Flood, Fault}
-use Rattle.sd_boot_chain.specs.Pause.{Passes, IsPause}
+use Rattle.sd_boot_chain.specs.Pause.{Passes, IsPause, IsWaitAnswer}
+use Rattle.sd_claims.specs.Causes.{wait_ok, wait_flood}
+use Rattle.sd_config.specs.declared.told.Told.TheVariants.{WaitOk, WaitFlood}
 use Rattle.sd_rpc_retry.proofs.Settling.{settled-then}
 use Rattle.sd_rpc_retry.proofs.Getting.{short, waited, at_now}
 use Rattle.sd_boot_chain.proofs.Dropping.{Gets, gets_nothing, gets_until, gets_error}
@@ -27,7 +29,7 @@ pub passes_flood : (until : ℕ) (h : History) (part : List Step) → Gets until
 passes_flood until h part g = record { silent = g.silent; ticks = g.ticks; ended = g.counted }
 
 pause_is : (ticks now : ℕ) (pause : Pause) (h : History) (part : List Step) → now ≡ (world_of h).tick → Passes (now + ticks) pause h part → IsPause ticks pause h part
-pause_is ticks now Over h part at p = (record { silent = p.silent; passed = waited ticks now h part at p.ticks p.ended.0; calm = p.ended.1 }, p.ended.2)
+pause_is ticks now Over h part at p = record { silent = p.silent; passed = waited ticks now h part at p.ticks p.ended.0; calm = p.ended.1; settles = p.ended.2 }
 pause_is ticks now Flood h part at p = record { silent = p.silent; passed = short ticks now h part at p.ticks; many = p.ended }
 pause_is ticks now Fault h part at p = tt
 
@@ -36,3 +38,9 @@ pauses old new ticks now pause at m =
     moves_weaker old new (λ h part. (now ≡ (world_of h).tick) × Passes (now + ticks) pause h part) (IsPause ticks pause)
     (λ h part p. pause_is ticks now pause h part p.0 p.1)
     (at_now old new now (Passes (now + ticks) pause) at m)
+
+pub waited_so : (ticks : ℕ) (h : History) (part : List Step) → IsPause ticks Over h part → IsWaitAnswer ticks (WaitOk ticks) h part
+waited_so ticks h part p = (λ n. wait_ok ticks part p, p.settles)
+
+pub flooded_so : (ticks : ℕ) (h : History) (part : List Step) → IsPause ticks Flood h part → IsWaitAnswer ticks (WaitFlood ticks) h part
+flooded_so ticks h part p = (λ n. wait_flood ticks part p, tt)

@@ -1,6 +1,6 @@
 -- The text of one command, and the transcript of one command more.
-use Rattle.std.proofs.Common.{◌≡◌, ℕ, ◌+◌, List, [], ◌∷◌, ◌++◌, take, Option, Some, None, refl, sym, ◌∙◌, ap, subst, append_assoc}
-use Rattle.std.specs.Prelude.{IfSome}
+use Rattle.std.proofs.Common.{◌≡◌, ℕ, ◌+◌, List, [], ◌∷◌, ◌++◌, take, Option, Some, None, refl, sym, ◌∙◌, ap, subst, append_assoc, inl, inr}
+use Rattle.std.specs.Prelude.{◌⊎◌, IfSome}
 use Rattle.std.proofs.lemmas.Grind.{flat_map-append}
 use Rattle.std.proofs.lemmas.List.{append-nil, append_cancel_left}
 use Rattle.sd_outside.specs.Streams.{Gains}
@@ -11,8 +11,10 @@ use Rattle.sd_config.specs.Config.{IsFor}
 use Rattle.sd_link.specs.World.{World}
 use Rattle.sd_link.specs.Steps.{Step, Entry, History, world_of, whole_record, record_of, run}
 use Rattle.sd_link.specs.Printing.{record_text, entry_text}
-use Rattle.sd_link.specs.Link.{GoesOn, Moves}
-use Rattle.sd_link.proofs.Histories.{record-append, record-goes, run-append, world-goes, moves_weaker}
+use Rattle.sd_link.specs.Link.{GoesOn, Moves, IsDrained, IsAtRest, IsAtRestBy, IsSettledBy}
+use Rattle.sd_link.specs.Tries.{beyond}
+use Rattle.sd_rpc_retry.proofs.Settling.{settled-beyond}
+use Rattle.sd_link.proofs.Histories.{record-append, record-goes, run-append, world-goes, rests-goes, rests-then, moves_weaker}
 use Rattle.sd_config.specs.declared.command.Command.{Command}
 use Rattle.sd_config.specs.declared.told.Told.{Told}
 use Rattle.sd_script.specs.Answers.{answer_line}
@@ -40,20 +42,25 @@ moves_to None (Some new) P Q q m = absurd m
 moves_to (Some old) None P Q q m = absurd m
 moves_to (Some old) (Some new) P Q q m = (m.0, m.1, (new, m.1, q, m.2))
 
+both : {P Q : History → Type 0} (told : Option History) → IfSome told P → IfSome told Q → IfSome told (λ h. P h × Q h)
+both None p q = tt
+both (Some h) p q = (p, q)
+
 -- one command: its answer, the lines that were drained, and the answer line
 pub is_step : (old new : Option History) (client : ClientView) (command : Command) (answer : Told) (next : ClientView) (drained_old drained_new added text : List ℕ)
     → Moves old new (IsDone client command answer next)
-    → IfSome new (λ h. drained_new ≡ record_text (whole_record h))
+    → IsDrained new drained_new → IfSome new IsAtRest
     → drained_new ≡ drained_old ++ added → text ≡ added ++ answer_line answer
     → Moves old new (IsStep client command drained_old text next)
-is_step old new client command answer next drained_old drained_new added text moved whole drains is =
+is_step old new client command answer next drained_old drained_new added text moved whole rests drains is =
     moves_weaker old new _ (IsStep client command drained_old text next)
     (λ h part m. record {
       answer = answer;
       answered = m.3;
-      shown = λ was. is ∙ ap (λ (l : List ℕ). l ++ answer_line answer) (new_lines h m.0 part drained_old drained_new added m.1 drains was m.2);
+      shown = λ was. is ∙ ap (λ (l : List ℕ). l ++ answer_line answer) (new_lines h m.0 part drained_old drained_new added m.1 drains was m.2.0);
+      rests = rests-goes h m.0 part m.1 m.2.1;
     })
-    (moves_to old new _ (λ h. drained_new ≡ record_text (whole_record h)) whole moved)
+    (moves_to old new _ (λ h. (drained_new ≡ record_text (whole_record h)) × IsAtRest h) (both new whole rests) moved)
 
 -- what holds of the history that is told goes with its next part
 pub moves_from : (old new : Option History) (P : History → List Step → Type 0) (Q : History → Type 0) → IfSome old Q → Moves old new P → Moves old new (λ h part. Q h × P h part)
@@ -71,11 +78,20 @@ counts-push : (n : Counts) (done : List Done) (d : Done) → counts_done n (done
 counts-push n [] d = refl
 counts-push n (e ∷ es) d = counts-push (counts_after n e.answer) es d
 
-caused-push : (c : Config) (n : Counts) (commands : List Command) (command : Command) (done : List Done) (d : Done) → AllCaused c n commands done → IsCaused c (counts_done n done) command d.answer d.part → AllCaused c n (commands ++ command ∷ []) (done ++ d ∷ [])
-caused-push c n [] command [] d all one = (one, tt)
-caused-push c n [] command (e ∷ es) d all one = absurd all
-caused-push c n (k ∷ ks) command [] d all one = absurd all
-caused-push c n (k ∷ ks) command (e ∷ es) d all one = (all.0, caused-push c (counts_after n e.answer) ks command es d all.1 one)
+-- beyond one part and then another
+beyond-both : (settled : List Step → Type 0) (xs ys : List Step) → beyond settled (xs ++ ys) ≡ beyond (beyond settled xs) ys
+beyond-both settled xs ys = λ i steps. settled (append_assoc xs ys steps i)
+
+caused-push : (settled : List Step → Type 0) (c : Config) (n : Counts) (commands : List Command) (command : Command) (done : List Done) (d : Done) → AllCaused settled c n commands done
+    → IsCaused (beyond settled (parts_of done)) c (counts_done n done) command d.answer d.part → AllCaused settled c n (commands ++ command ∷ []) (done ++ d ∷ [])
+caused-push settled c n [] command [] d all one = (one, tt)
+caused-push settled c n [] command (e ∷ es) d all one = absurd all
+caused-push settled c n (k ∷ ks) command [] d all one = absurd all
+caused-push settled c n (k ∷ ks) command (e ∷ es) d all one = (
+  all.0,
+  caused-push (beyond settled e.part) c (counts_after n e.answer) ks command es d all.1
+      (subst (λ (still : List Step → Type 0). IsCaused still c (counts_done (counts_after n e.answer) es) command d.answer d.part) (beyond-both settled e.part (parts_of es)) one),
+)
 
 -- one command's text
 abbrev pub text_of : Config → World → Done → List ℕ
@@ -127,7 +143,7 @@ pub record SessionAt (commands : List Command) (before after : Option (List ℕ)
   pub counted : HasCounted client (counts_done first_counts session.done)
 
 pub session_none : (told : Option (List ℕ)) (h : History) → IsSession [] told told h []
-session_none told h = record { done = []; cut = refl; caused = tt; ended = tt; text = gains_nothing told }
+session_none told h = record { done = []; cut = refl; caused = tt; ended = tt; rests = inl refl; text = gains_nothing told }
 
 pub session_first : (told : Option (List ℕ)) (client : ClientView) (h : History) → HasCounted client first_counts → SessionAt [] told told client h []
 unfolding session_none
@@ -155,11 +171,13 @@ module _ (client : ClientView) (commands : List Command) (command : Command) (be
       ∙ ap (λ (c : Config). text_of c (world_of b) last) goes.config
       ∙ ap (λ (w : World). text_of a.config w last) (world-goes a b xs goes ∙ ap (λ (l : List Step). run a.config (world_of a) l) s.session.cut)
 
-  caused : AllCaused a.config first_counts (commands ++ command ∷ []) (s.session.done ++ last ∷ [])
+  caused : AllCaused (IsSettledBy a) a.config first_counts (commands ++ command ∷ []) (s.session.done ++ last ∷ [])
   unfolding last
   caused =
-      caused-push a.config first_counts commands command s.session.done last s.session.caused
-      (subst (λ (c : Config). IsCaused c (counts_done first_counts s.session.done) command t.answer ys) goes.config answered.0.caused)
+      caused-push (IsSettledBy a) a.config first_counts commands command s.session.done last s.session.caused
+      (subst (λ (l : List Step). IsCaused (beyond (IsSettledBy a) l) a.config (counts_done first_counts s.session.done) command t.answer ys) s.session.cut
+      (subst (λ (still : List Step → Type 0). IsCaused still a.config (counts_done first_counts s.session.done) command t.answer ys) (settled-beyond a b xs goes)
+      (subst (λ (c : Config). IsCaused (IsSettledBy b) c (counts_done first_counts s.session.done) command t.answer ys) goes.config answered.0.caused)))
 
   ended : AllEnd a.config (fates_of a.events) (world_of a) (whole_record a) (s.session.done ++ last ∷ [])
   unfolding last
@@ -168,6 +186,9 @@ module _ (client : ClientView) (commands : List Command) (command : Command) (be
   cut : xs ++ ys ≡ parts_of (s.session.done ++ last ∷ [])
   unfolding last
   cut = ap (λ (l : List Step). l ++ ys) s.session.cut ∙ sym (parts-push s.session.done last)
+
+  rested : (s.session.done ++ last ∷ [] ≡ []) ⊎ IsAtRestBy a (parts_of (s.session.done ++ last ∷ []))
+  rested = inr (subst (λ (l : List Step). IsAtRestBy a l) cut (rests-then a b xs ys goes t.rests))
 
   whole : transcript a.config (world_of a) (s.session.done ++ last ∷ []) ≡ so_far ++ line
   unfolding last so_far line
@@ -181,6 +202,7 @@ module _ (client : ClientView) (commands : List Command) (command : Command) (be
       cut = cut;
       caused = caused;
       ended = ended;
+      rests = rested;
       text = subst (λ (l : List ℕ). Gains before after l) (sym whole) (gains_then before mid after so_far line s.session.text (subst (λ (l : List ℕ). Gains mid after l) shown gained));
     };
     counted = subst (HasCounted next) (sym (counts-push first_counts s.session.done last)) answered.1;
@@ -194,8 +216,9 @@ module _ (client : ClientView) (commands : List Command) (command : Command) (be
     done = s.session.done ++ last ∷ [];
     more = [];
     cut = cut ∙ sym (append-nil (parts_of (s.session.done ++ last ∷ [])));
-    caused = subst (λ (l : List Command). AllCaused a.config first_counts l (s.session.done ++ last ∷ [])) (sym more) caused;
+    caused = subst (λ (l : List Command). AllCaused (IsSettledBy a) a.config first_counts l (s.session.done ++ last ∷ [])) (sym more) caused;
     ended = ended;
+    rests = rested;
     front = so_far ++ gained.0;
     short = (gained.1.0, append_assoc so_far gained.0 gained.1.0 ∙ ap (λ (l : List ℕ). so_far ++ l) (gained.1.1 ∙ shown) ∙ sym whole);
     text = gains_then before mid after so_far gained.0 s.session.text gained.2;
@@ -212,6 +235,7 @@ session_cut commands n before mid a xs ys s = record {
   cut = ap (λ (l : List Step). l ++ ys) s.cut;
   caused = s.caused;
   ended = s.ended;
+  rests = s.rests;
   front = transcript a.config (world_of a) s.done;
   short = ([], append-nil (transcript a.config (world_of a) s.done));
   text = s.text;

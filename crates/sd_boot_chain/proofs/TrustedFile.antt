@@ -53,8 +53,8 @@ asks_its_file f clean = record {
 
 -- What is fetched after steps of this configuration, in which no other file was asked for from there and nothing was sent from
 -- there to the RPC ports, is the file of that name.
-pub fetched_is_configured : (c : Config) → IsConfig c → (before part : List Step) (f : Fetch) (bytes : List ℕ) → HasNoZero f.name → AsksOnlyFor f.me f.name (run c (start c) before) → KeepsOffRpc f.me (run c (start c) before)
-    → AllAllowed c (run c (start c) before) part → Fetched f bytes part → boot_file c f.name ≡ Some bytes
+pub fetched_is_configured : {settled : List Step → Type 0} (c : Config) → IsConfig c → (before part : List Step) (f : Fetch) (bytes : List ℕ) → HasNoZero f.name → AsksOnlyFor f.me f.name (run c (start c) before) → KeepsOffRpc f.me (run c (start c) before)
+    → AllAllowed c (run c (start c) before) part → Fetched settled f bytes part → boot_file c f.name ≡ Some bytes
 fetched_is_configured c is before part f bytes clean asks off allowed came =
     let w = run c (start c) before in
     let apart : f.me.ip ≢ c.server.ip = λ e. is.ips (sym e ∙ fetched_there c w f bytes part allowed came) in

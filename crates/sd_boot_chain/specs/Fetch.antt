@@ -10,7 +10,8 @@ use Rattle.std.specs.List.{concat}
 use Rattle.sd_config.specs.Config.{IsConfig}
 use Rattle.sd_config.specs.Program.{boot_file}
 use Rattle.sd_link.specs.Requests.{AsksOnlyFor, KeepsOffRpc}
-use Rattle.sd_link.specs.Steps.{Step, Send, History, IsLawfulSoFar, world_of}
+use Rattle.sd_link.specs.Steps.{Step, Send, History, world_of}
+use Rattle.sd_link.specs.Link.{IsSettledBy}
 use Rattle.sd_claims.specs.Fetching.{Fetch, Fetched, FetchTimedOut, FetchFlooded, FetchRefused, FetchTooLarge, progress, courtesy}
 use Rattle.sd_rpc_retry.specs.declared.asking.Look.{Look}
 use Rattle.sd_rpc_retry.specs.declared.asking.Look.TheVariants as look
@@ -42,27 +43,22 @@ LooksAt me new t (look.Reply sent) = (progress t.says t ≡ None) × (courtesy m
 LooksAt me new t look.Other = (progress t.says t ≡ None) × (courtesy me t.says ≡ [])
 
 -- what came of it
-abbrev pub CameOf : Fetch → outcomes.Fetched → List Step → Type 0
-CameOf f (came.File bytes) part = Fetched f bytes part
-CameOf f came.Timeout part = FetchTimedOut f part
-CameOf f came.Flood part = FetchFlooded f part
-CameOf f (came.Refused code) part = FetchRefused f code part
-CameOf f (came.TooLarge got) part = FetchTooLarge f got part
-CameOf f came.Fault part = Unit {0}
+abbrev pub CameOf : Fetch → outcomes.Fetched → History → List Step → Type 0
+CameOf f (came.File bytes) old part = Fetched (IsSettledBy old) f bytes part
+CameOf f came.Timeout old part = FetchTimedOut (IsSettledBy old) f part
+CameOf f came.Flood old part = FetchFlooded (IsSettledBy old) f part
+CameOf f (came.Refused code) old part = FetchRefused code (IsSettledBy old) f part
+CameOf f (came.TooLarge got) old part = FetchTooLarge got (IsSettledBy old) f part
+CameOf f came.Fault old part = Unit {0}
 
 abbrev pub IsFetchFault : outcomes.Fetched → Type 0
-IsFetchFault (came.File bytes) = ⊥
-IsFetchFault came.Timeout = ⊥
-IsFetchFault came.Flood = ⊥
-IsFetchFault (came.Refused code) = ⊥
-IsFetchFault (came.TooLarge got) = ⊥
 IsFetchFault came.Fault = Unit {0}
+IsFetchFault what = ⊥
 
--- What was asked before is a run of the configuration, the server is asked, no other file was ever asked for from this address and
+-- The world is one of the configuration, the server is asked, no other file was ever asked for from this address and
 -- port, and nothing was ever sent from there to the RPC programs.
 pub record MayTrust (f : Fetch) (old : History) : Type 0 where
   pub rules : IsConfig old.config
-  pub lawful : IsLawfulSoFar old
   pub server : f.server ≡ old.config.server.ip
   pub asks : AsksOnlyFor f.me f.name (world_of old)
   pub keeps_off : KeepsOffRpc f.me (world_of old)
@@ -70,17 +66,10 @@ pub record MayTrust (f : Fetch) (old : History) : Type 0 where
 -- a file that came is the configured one of that name
 abbrev pub GivesFile : Fetch → outcomes.Fetched → History → List Step → Type 0
 GivesFile f (came.File bytes) old part = MayTrust f old → boot_file old.config f.name ≡ Some bytes
-GivesFile f came.Timeout old part = Unit {0}
-GivesFile f came.Flood old part = Unit {0}
-GivesFile f (came.Refused code) old part = Unit {0}
-GivesFile f (came.TooLarge got) old part = Unit {0}
-GivesFile f came.Fault old part = Unit {0}
+GivesFile f what old part = Unit {0}
 
 -- the last block is acknowledged
 abbrev pub Finishes : Packet → Reception → outcomes.Fetched → History → List Step → Type 0
 Finishes request taken (came.File bytes) old part = (part ≡ Send request ∷ []) × (bytes ≡ concat taken.blocks)
-Finishes request taken came.Timeout old part = ⊥
-Finishes request taken came.Flood old part = ⊥
-Finishes request taken (came.Refused code) old part = ⊥
-Finishes request taken (came.TooLarge got) old part = ⊥
 Finishes request taken came.Fault old part = Unit {0}
+Finishes request taken what old part = ⊥

@@ -4,6 +4,11 @@ use Rattle.sd_link.specs.Steps.{Step, History, world_of, run}
 use Rattle.sd_link.specs.Parts.{sends_in, got_in}
 use Rattle.sd_link.specs.Link.{IsSettledBy}
 use Rattle.sd_link.specs.Tries.{flood_limit}
+use Rattle.sd_config.specs.declared.command.Command.TheVariants.{Wait}
+use Rattle.sd_config.specs.declared.told.Told.{Told}
+use Rattle.sd_claims.specs.Booting.{Counts}
+use Rattle.sd_claims.specs.Causes.{Cause}
+use Rattle.sd_claims.specs.Ending.{EndsAfter}
 use Rattle.sd_claims.specs.Waiting.{Waited, WaitFlooded}
 use Rattle.sd_rpc_retry.specs.Lasting.{StaysBefore}
 use Rattle.sd_boot_chain.specs.declared.pause.Pause.{Pause}
@@ -21,6 +26,10 @@ pub record Passes (until : ℕ) (pause : Pause) (old : History) (part : List Ste
   pub ended : Ended until pause old part
 
 abbrev pub IsPause : ℕ → Pause → History → List Step → Type 0
-IsPause ticks Over old part = Waited ticks part × IsSettledBy old part
+IsPause ticks Over old part = Waited (IsSettledBy old) ticks part
 IsPause ticks Flood old part = WaitFlooded ticks part
 IsPause ticks Fault old part = Unit {0}
+
+-- the answer has its cause, whatever was counted before, and the command ends as it says
+abbrev pub IsWaitAnswer : ℕ → Told → History → List Step → Type 0
+IsWaitAnswer ticks answer old part = ((n : Counts) → Cause (IsSettledBy old) old.config n (Wait ticks) answer part) × EndsAfter old answer part

@@ -1,55 +1,57 @@
 -- What came of the calls that follow the boot program, in the code's words and in the standard's.
-use Rattle.std.specs.Prelude.{◌≡◌, ℕ, ◌+◌, ◌==◌, if◌then◌else◌, List, Some, Result, Ok, Err}
+use Rattle.std.specs.Prelude.{◌≡◌, ℕ, ◌+◌, ◌==◌, if◌then◌else◌, List, ◌++◌, Result, Ok, Err}
 use Rattle.sd_outside.specs.declared.errors.NoMemory.{NoMemory}
 use Rattle.sd_config.specs.declared.stage.Stage.{Stage}
 use Rattle.sd_config.specs.declared.stage.Stage.TheVariants as stage
 use Rattle.sd_link.specs.Steps.{Step, History}
-use Rattle.sd_rpc_retry.specs.declared.calling.Answer.{Answer}
+use Rattle.sd_link.specs.Link.{GoesOn, IsSettledBy}
 use Rattle.sd_rpc_retry.specs.declared.calling.Answer.TheVariants as answers
 use Rattle.sd_rpc_retry.specs.declared.calling.CallError.{CallError}
 use Rattle.sd_rpc_retry.specs.declared.calling.CallError.TheVariants as error
 use Rattle.sd_rpc_retry.specs.declared.calling.Caller.{Caller}
 use Rattle.sd_config.specs.declared.told.Told.{Told}
 use Rattle.sd_config.specs.declared.told.Told.TheVariants.{BootUnbuilt, BootTimeout, BootFlood, BootDenied, BootNoPort, BootLinkFault}
-use Rattle.sd_claims.specs.Booting.{Call, CallTold, CallDenied, CallTimedOut, CallFlooded, AfterCall, whoami_call, following}
+use Rattle.sd_claims.specs.Booting.{Counts, Call, CallTold, CallTimedOut, CallFlooded, ComesTo, OfCall, whoami_call}
 use Rattle.sd_claims.specs.Causes.{calls_at}
 use Rattle.sd_boot_chain.specs.declared.root.Unanswered.{Unanswered}
 
 -- ---- one call
 
--- the answer leads to this call
-abbrev pub LeadsTo : Call → Caller → Call → List Step → Type 0
-LeadsTo next caller call part = (told : Answer) × (following told ≡ Some next) × CallTold (Ok told) caller call part
+-- the machine at this address says what the client is called
+abbrev pub Names : ℕ → List ℕ → (List Step → Type 0) → Caller → Call → List Step → Type 0
+Names from client settled caller call part = (domain : List ℕ) × (router : ℕ) × CallTold (Ok (answers.Whoami from client domain router)) settled caller call part
+
+-- the file is at the server with this address
+abbrev pub Places : ℕ → (List Step → Type 0) → Caller → Call → List Step → Type 0
+Places ip settled caller call part = (from : ℕ) × (server : List ℕ) × (path : List ℕ) × CallTold (Ok (answers.Getfile from server ip path)) settled caller call part
 
 -- why a call has no answer; nothing is said of a fault and of want of memory
-abbrev pub HasNoAnswer : CallError → Caller → Call → List Step → Type 0
-HasNoAnswer error.Timeout caller call part = CallTimedOut caller call part
-HasNoAnswer error.Flood caller call part = CallFlooded caller call part
-HasNoAnswer (error.Denied code) caller call part = CallDenied code caller call part
-HasNoAnswer error.LinkFault caller call part = Unit {0}
-HasNoAnswer error.NoMemory caller call part = Unit {0}
+abbrev pub HasNoAnswer : CallError → (List Step → Type 0) → Caller → Call → List Step → Type 0
+HasNoAnswer error.Timeout settled caller call part = CallTimedOut settled caller call part
+HasNoAnswer error.Flood settled caller call part = CallFlooded settled caller call part
+HasNoAnswer (error.Denied code) settled caller call part = CallTold (Err code) settled caller call part
+HasNoAnswer why settled caller call part = Unit {0}
 
 -- what came of a call: an answer that shows this, or none
-abbrev pub CallCame : {X : Type 0} → (X → Caller → Call → List Step → Type 0) → Caller → Call → Result X Unanswered → History → List Step → Type 0
-CallCame shows caller call (Ok x) old part = shows x caller call part
-CallCame shows caller call (Err why) old part = HasNoAnswer why.error caller call part
+abbrev pub CallCame : {X : Type 0} → (X → (List Step → Type 0) → Caller → Call → List Step → Type 0) → Caller → Call → Result X Unanswered → History → List Step → Type 0
+CallCame shows caller call (Ok x) old part = shows x (IsSettledBy old) caller call part
+CallCame shows caller call (Err why) old part = HasNoAnswer why.error (IsSettledBy old) caller call part
 
 -- ---- all calls
 
--- this came of the call of a step, after those before it were answered
-abbrev pub AtCall : Stage → (Caller → Call → List Step → Type 0) → Caller → Call → List Step → Type 0
-AtCall stage.Whoami came caller call part = came caller call part
-AtCall stage.Getfile came caller call part = AfterCall came caller call part
-AtCall stage.Getport came caller call part = AfterCall (AfterCall came) caller call part
-AtCall stage.Rarp came caller call part = ⊥
-AtCall stage.Tftp came caller call part = ⊥
-AtCall stage.Mnt came caller call part = ⊥
-AtCall stage.Wait came caller call part = ⊥
+-- the port that GETPORT told, or the call that has no answer
+abbrev pub CallsGave : History → Counts → List ℕ → Result ℕ Unanswered → List Step → Type 0
+CallsGave first n program (Ok port) whole = OfCall (IsSettledBy first) first.config n program stage.Getport (CallTold (Ok (answers.Port port))) whole
+CallsGave first n program (Err why) whole = OfCall (IsSettledBy first) first.config n program why.step (HasNoAnswer why.error) whole
 
--- what came of the calls: the port that GETPORT told, or none
-abbrev pub CallsCame : Caller → Result ℕ Unanswered → List Step → Type 0
-CallsCame caller (Ok port) part = AfterCall (AfterCall (CallTold (Ok (answers.Port port)))) caller (whoami_call caller.ip) part
-CallsCame caller (Err why) part = AtCall why.step (HasNoAnswer why.error) caller (whoami_call caller.ip) part
+-- Whatever boot came to this call in the steps before, this came of its calls from there on.
+abbrev pub CallsFrom : Stage → Caller → Call → Result ℕ Unanswered → History → List Step → Type 0
+CallsFrom step caller call found old part =
+    (first : History) (n : Counts) (program : List ℕ) (before : List Step) → GoesOn first old before → ComesTo (IsSettledBy first) first.config n program step caller call before → CallsGave first n program found (before ++ part)
+
+-- from WHOAMI on
+abbrev pub CallsCame : Caller → Result ℕ Unanswered → History → List Step → Type 0
+CallsCame caller found old part = CallsFrom stage.Whoami caller (whoami_call caller.ip) found old part
 
 -- how many were made
 abbrev pub calls_of : Result ℕ Unanswered → ℕ
@@ -73,6 +75,6 @@ answer_to program (Err why) = answer_without why.step why.error
 -- The boot was answered so, by what came of its calls, and this is the number of the next call.
 pub record IsCallsAnswer (caller : Caller) (program : List ℕ) (answer : Told) (next_xid : ℕ) (old : History) (part : List Step) : Type 0 where
   pub found : Result ℕ Unanswered
-  pub came : CallsCame caller found part
+  pub came : CallsCame caller found old part
   pub answered : answer_to program found ≡ Ok answer
   pub counted : next_xid ≡ caller.next_xid + calls_of found

@@ -3,10 +3,12 @@ use Rattle.std.specs.Prelude.{◌≡◌, ℕ, ◌%◌, List, ◌++◌}
 use Rattle.sd_config.specs.declared.config.ClientConfig.{ClientConfig}
 use Rattle.sd_config.specs.Config.{IsFor}
 use Rattle.sd_link.specs.Steps.{Step, History, world_of, whole_record, record_of}
+use Rattle.sd_link.specs.Link.{IsAtRestBy}
 use Rattle.sd_link.specs.Printing.{record_text}
+use Rattle.sd_link.specs.Link.{IsSettledBy}
 use Rattle.sd_config.specs.declared.command.Command.{Command}
 use Rattle.sd_config.specs.declared.told.Told.{Told}
-use Rattle.sd_config.specs.declared.told.Told.TheVariants.{AddrOk, AddrTimeout, AddrFlood, AddrLinkFault, BootUnbuilt, BootTimeout, BootFlood, BootDenied, BootRefused, BootNoPort, BootTooLarge, BootLinkFault, WaitOk, WaitFlood, WaitLinkFault}
+use Rattle.sd_config.specs.declared.told.Told.TheVariants.{AddrLinkFault, BootLinkFault, WaitLinkFault}
 use Rattle.sd_script.specs.Answers.{answer_line}
 use Rattle.sd_claims.specs.Booting.{Counts}
 use Rattle.sd_claims.specs.Causes.{IsCaused, counts_after}
@@ -25,24 +27,13 @@ HasCounted client n = (client.boots ≡ n.boots % 32768) × (client.next_xid ≡
 -- the answer of a command that a fault of the link ended
 abbrev pub IsFault : Told → Type 0
 IsFault AddrLinkFault = Unit {0}
-IsFault (WaitLinkFault ticks) = Unit {0}
-IsFault (AddrOk ip) = ⊥
-IsFault AddrTimeout = ⊥
-IsFault (AddrFlood step) = ⊥
 IsFault BootLinkFault = Unit {0}
-IsFault (BootUnbuilt step program) = ⊥
-IsFault (BootTimeout step) = ⊥
-IsFault (BootFlood step) = ⊥
-IsFault (BootDenied step code) = ⊥
-IsFault (BootRefused step code) = ⊥
-IsFault BootNoPort = ⊥
-IsFault (BootTooLarge size) = ⊥
-IsFault (WaitOk ticks) = ⊥
-IsFault (WaitFlood ticks) = ⊥
+IsFault (WaitLinkFault ticks) = Unit {0}
+IsFault answer = ⊥
 
 -- the answer has its cause, where the client counted so much before, and the command ends so
 pub record IsAnswered (n : Counts) (command : Command) (answer : Told) (old : History) (part : List Step) : Type 0 where
-  pub caused : IsCaused old.config n command answer part
+  pub caused : IsCaused (IsSettledBy old) old.config n command answer part
   pub ended : EndsAfter old answer part
 
 -- A client of this configuration did the command: whatever it had counted, the answer has its cause, and it counts on.
@@ -50,8 +41,10 @@ abbrev pub IsDone : ClientView → Command → Told → ClientView → History �
 IsDone client command answer next old part =
     IsFor old.config client.config → (n : Counts) → HasCounted client n → IsAnswered n command answer old part × HasCounted next (counts_after n answer)
 
--- Where the record was drained before, the text is the new lines and the answer line.
+-- Where the record was drained before, the text is the new lines and the answer line. The server is done with the tick at which the
+-- command ended.
 pub record IsStep (client : ClientView) (command : Command) (drained text : List ℕ) (next : ClientView) (old : History) (part : List Step) : Type 0 where
   pub answer : Told
   pub answered : IsDone client command answer next old part
   pub shown : drained ≡ record_text (whole_record old) → text ≡ record_text (record_of old.config (world_of old) part) ++ answer_line answer
+  pub rests : IsAtRestBy old part

@@ -2,21 +2,21 @@
 ghost use Rattle.std.specs.Prelude.{◌≡◌, ◌≤◌, IfOk};
 ghost use Rattle.std.specs.Option.{option_map};
 ghost use Rattle.sd_outside.specs.Causes.{Rose};
-ghost use Rattle.sd_config.specs.Config.{IsFor, IsClientConfig};
+ghost use Rattle.sd_config.specs.Config.{IsClientConfig};
 ghost use Rattle.sd_link.specs.Link.{Moves};
 ghost use Rattle.sd_claims.specs.Rarp.{learned_from, rarp_request, rarp_hearing};
 ghost use Rattle.sd_rpc_retry.specs.Lasting.{Lasts, most_asking_ticks};
 ghost use Rattle.sd_rpc_retry.specs.Asking.{IsAsked, IsAskedFault};
-ghost use Rattle.sd_claims.specs.Causes.{IsAddrCaused};
-ghost use Rattle.sd_claims.specs.Ending.{EndsAfter};
 ghost use Rattle.sd_boot_chain.specs.Step.{IsFault};
-ghost use Rattle.sd_boot_chain.specs.Address.{shows_learned};
+ghost use Rattle.sd_boot_chain.specs.Address.{shows_learned, IsAddrAnswer};
 
-use sd_config::{ClientConfig, Stage, Told};
+use sd_config::{ClientConfig, Stage};
+
 use sd_link::Link;
 use sd_outside::{ByteList, Mac, NoMemory, Packet};
 use sd_rarp::{RarpFrame, read_frame, write_frame};
 use sd_rpc_retry::{Asked, Listener, Look, ask};
+use sd_config::Told;
 use std::alloc::Global;
 
 /// What a reply tells.
@@ -128,7 +128,7 @@ pub(crate) fn own_address<L: Link>(
     // Over a link that tells, and whose count of faults didn't rise, the answer is earned or caused by what happened,
     // and the command ends as its answer says.
     ensures caused { (Rose (L.faults link.old) (L.faults link.new) → ⊥) → IfOk result (λ answer.
-        Moves (L.told link.old) (L.told link.new) (λ old part. IsFor old.config config.now → IsAddrCaused old.config answer part × EndsAfter old answer part)) }
+        Moves (L.told link.old) (L.told link.new) (IsAddrAnswer config.now answer)) }
     ensures fault { IfOk result (λ answer. IsFault answer → Rose (L.faults link.old) (L.faults link.new)) }
     ensures faults { L.faults link.old ≤ L.faults link.new }
     ensures drained { L.drained link.new ≡ L.drained link.old }

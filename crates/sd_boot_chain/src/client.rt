@@ -1,15 +1,13 @@
 //! The diskless client.
 ghost use Rattle.std.specs.Prelude.{◌≡◌, ◌≤◌, ◌+◌, ◌%◌, IfOk};
 ghost use Rattle.sd_outside.specs.Causes.{Rose};
-ghost use Rattle.sd_config.specs.Config.{IsFor, IsClientConfig};
+ghost use Rattle.sd_config.specs.Config.{IsClientConfig};
 ghost use Rattle.sd_link.specs.Link.{Moves};
 ghost use Rattle.sd_config.specs.Commands.{IsCommand};
-ghost use Rattle.sd_claims.specs.Causes.{IsAddrCaused};
-ghost use Rattle.sd_claims.specs.Ending.{EndsAfter};
 ghost use Rattle.sd_claims.specs.Rarp.{rarp_request, rarp_hearing};
 ghost use Rattle.sd_rpc_retry.specs.Lasting.{Lasts, most_asking_ticks};
 ghost use Rattle.sd_rpc_retry.specs.Asking.{IsAsked, IsAskedFault};
-ghost use Rattle.sd_boot_chain.specs.Address.{shows_learned};
+ghost use Rattle.sd_boot_chain.specs.Address.{shows_learned, IsAddrAnswer};
 ghost use Rattle.sd_claims.specs.Booting.{first_counts};
 ghost use Rattle.sd_boot_chain.specs.Boot.{task_of, caller_of};
 ghost use Rattle.sd_boot_chain.specs.Durations.{most_ticks, most_calls, HasCallsLeft};
@@ -20,10 +18,11 @@ use crate::address::{Learned, learn, own_address};
 use crate::boot::program_name;
 use crate::fetch::Task;
 use crate::pause::wait;
-use sd_config::{ClientConfig, Command, Told};
+use sd_config::ClientConfig;
 use sd_link::Link;
 use sd_outside::{Addr, ByteList, NoMemory};
 use sd_rpc_retry::{Asked, Caller};
+use sd_config::{Command, Told};
 use std::alloc::Global;
 use std::marker::Model;
 
@@ -92,7 +91,7 @@ impl Client {
     fn answer_address<L: Link>(&self, link: &mut L) -> Result<Told, NoMemory>
         ensures lasts { Lasts most_asking_ticks (L.told link.old) (L.told link.new) }
         ensures caused { (Rose (L.faults link.old) (L.faults link.new) → ⊥) → IfOk result (λ answer.
-            Moves (L.told link.old) (L.told link.new) (λ old part. IsFor old.config self.now.config → IsAddrCaused old.config answer part × EndsAfter old answer part)) }
+            Moves (L.told link.old) (L.told link.new) (IsAddrAnswer self.now.config answer)) }
         ensures fault { IfOk result (λ answer. IsFault answer → Rose (L.faults link.old) (L.faults link.new)) }
         ensures faults { L.faults link.old ≤ L.faults link.new }
         ensures drained { L.drained link.new ≡ L.drained link.old }

@@ -185,7 +185,7 @@ fn finish<L: Link>(link: &mut L, request: &Packet, receiver: Receiver) -> Result
 pub(crate) fn fetch<L: Link>(alloc: Global, link: &mut L, fetch: &Task) -> Result<Fetched, NoMemory>
     requires { IsFetch fetch.now }
     // Over a link that tells, this came of the fetch.
-    ensures told { IfOk result (λ came. Moves (L.told link.old) (L.told link.new) (λ old part. CameOf (fetch_of fetch.now) came part)) }
+    ensures told { IfOk result (λ came. Moves (L.told link.old) (L.told link.new) (CameOf (fetch_of fetch.now) came)) }
     // Over a link that tells a world of the configuration, a file that comes from its server is the configured one of that name.
     ensures file { IfOk result (λ came. Moves (L.told link.old) (L.told link.new) (GivesFile (fetch_of fetch.now) came)) }
     ensures lasts { Lasts most_fetch_ticks (L.told link.old) (L.told link.new) }

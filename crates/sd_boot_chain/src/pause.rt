@@ -2,11 +2,9 @@
 ghost use Rattle.std.specs.Prelude.{◌≡◌, ◌≤◌, IfOk, Ok};
 ghost use Rattle.sd_outside.specs.Causes.{Rose};
 ghost use Rattle.sd_link.specs.Link.{Moves};
-ghost use Rattle.sd_claims.specs.Causes.{IsWaitCaused};
-ghost use Rattle.sd_claims.specs.Ending.{EndsAfter};
 ghost use Rattle.sd_boot_chain.specs.Step.{IsFault};
 ghost use Rattle.sd_rpc_retry.specs.Lasting.{Lasts, StaysBefore};
-ghost use Rattle.sd_boot_chain.specs.Pause.{Passes, IsPause};
+ghost use Rattle.sd_boot_chain.specs.Pause.{Passes, IsPause, IsWaitAnswer};
 
 use sd_config::Told;
 use sd_link::{Link, LinkError};
@@ -63,7 +61,7 @@ pub(crate) fn wait<L: Link>(link: &mut L, ticks: u64) -> Result<Told, NoMemory>
     // Over a link that tells, and whose count of faults didn't rise, the answer is earned or caused by what happened,
     // and the command ends as its answer says.
     ensures caused { (Rose (L.faults link.old) (L.faults link.new) → ⊥) → IfOk result (λ answer.
-        Moves (L.told link.old) (L.told link.new) (λ old part. IsWaitCaused ticks answer part × EndsAfter old answer part)) }
+        Moves (L.told link.old) (L.told link.new) (IsWaitAnswer ticks answer)) }
     ensures fault { IfOk result (λ answer. IsFault answer → Rose (L.faults link.old) (L.faults link.new)) }
     ensures faults { L.faults link.old ≤ L.faults link.new }
     ensures drained { L.drained link.new ≡ L.drained link.old }

@@ -12,7 +12,7 @@ ghost use Rattle.sd_rpc_retry.specs.Calls.{IsAnswerTo};
 ghost use Rattle.sd_rpc_retry.specs.Lasting.{Lasts, most_asking_ticks};
 ghost use Rattle.sd_claims.specs.Booting.{CallTold, after_call, portmapper, whoami_call, getfile_call, getport_call};
 ghost use Rattle.sd_boot_chain.specs.Durations.{most_calls_ticks};
-ghost use Rattle.sd_boot_chain.specs.Root.{CallCame, LeadsTo, CallsCame, calls_of, answer_without, answer_to};
+ghost use Rattle.sd_boot_chain.specs.Root.{CallCame, Names, Places, CallsCame, calls_of, answer_without, answer_to};
 
 use sd_config::{Stage, Told};
 use sd_link::Link;
@@ -93,7 +93,7 @@ fn whoami<L: Link>(alloc: Global, link: &mut L, caller: &mut Caller) -> Result<N
     requires wait { caller.old.wait ≤ 1000 }
     requires machine { length caller.old.machine ≤ 255 }
     ensures xid { caller.new ≡ after_call caller.old }
-    ensures told { Moves (L.told link.old) (L.told link.new) (CallCame (λ named. LeadsTo (getfile_call named.from named.client (codes "root"))) caller.old (whoami_call caller.old.ip) result) }
+    ensures told { Moves (L.told link.old) (L.told link.new) (CallCame (λ named. Names named.from named.client) caller.old (whoami_call caller.old.ip) result) }
     ensures fits { IfOk result (λ named. length named.client ≤ name_limit) }
     ensures step { IfErr result (λ why. why.step ≡ stage.Whoami) }
     ensures lasts { Lasts most_asking_ticks (L.told link.old) (L.told link.new) }
@@ -132,7 +132,7 @@ fn getfile<L: Link>(
     requires client { length named.client ≤ name_limit }
     requires key { length key ≤ key_limit }
     ensures xid { caller.new ≡ after_call caller.old }
-    ensures told { Moves (L.told link.old) (L.told link.new) (CallCame (λ server. LeadsTo (getport_call server)) caller.old (getfile_call named.from named.client key) result) }
+    ensures told { Moves (L.told link.old) (L.told link.new) (CallCame Places caller.old (getfile_call named.from named.client key) result) }
     ensures step { IfErr result (λ why. why.step ≡ stage.Getfile) }
     ensures lasts { Lasts most_asking_ticks (L.told link.old) (L.told link.new) }
     ensures fault { IfErr result (λ why. why.error ≡ error.LinkFault → Rose (L.faults link.old) (L.faults link.new)) }
@@ -203,7 +203,7 @@ pub(crate) fn find_mount<L: Link>(
     requires machine { length caller.old.machine ≤ 255 }
     requires root { root ≡ codes "root" }
     ensures counted { caller.new.next_xid ≡ caller.old.next_xid + calls_of result }
-    ensures told { Moves (L.told link.old) (L.told link.new) (λ old part. CallsCame caller.old result part) }
+    ensures told { Moves (L.told link.old) (L.told link.new) (CallsCame caller.old result) }
     ensures lasts { Lasts most_calls_ticks (L.told link.old) (L.told link.new) }
     ensures fault { IfErr result (λ why. why.error ≡ error.LinkFault → Rose (L.faults link.old) (L.faults link.new)) }
     ensures faults { L.faults link.old ≤ L.faults link.new }

@@ -1,11 +1,9 @@
 //! A list of commands, done one after another over any link.
-ghost use Rattle.std.specs.Prelude.{◌≡◌, ◌≤◌, ◌+◌, length, IfOk, OnOk, OnErr, IfSome, IsErrOf};
+ghost use Rattle.std.specs.Prelude.{◌≡◌, ◌≤◌, ◌+◌, length, IfOk, OnOk, OnErr, IsErrOf};
 ghost use Rattle.std.specs.List.{All};
 ghost use Rattle.sd_outside.specs.Causes.{Rose};
 ghost use Rattle.sd_config.specs.Config.{IsFor, IsClientConfig};
-ghost use Rattle.sd_link.specs.Steps.{whole_record};
-ghost use Rattle.sd_link.specs.Printing.{record_text};
-ghost use Rattle.sd_link.specs.Link.{Moves};
+ghost use Rattle.sd_link.specs.Link.{Moves, IsDrained};
 ghost use Rattle.sd_config.specs.Commands.{command_limit};
 ghost use Rattle.sd_config.specs.Commands.{IsCommand};
 ghost use Rattle.sd_claims.specs.Booting.{first_counts};
@@ -55,7 +53,7 @@ fn text_of<L: Link>(
         Moves (L.told link.old) (L.told link.new) (IsStep client.old command.now (L.drained link.old) text client.new)) }
     ensures calls { client.new.next_xid ≤ client.old.next_xid + most_calls }
     ensures lasts { Lasts most_ticks (L.told link.old) (L.told link.new) }
-    ensures drained { OnOk result (IfSome (L.told link.new) (λ h. L.drained link.new ≡ record_text (whole_record h))) }
+    ensures drained { OnOk result (IsDrained (L.told link.new) (L.drained link.new)) }
     ensures faults { L.faults link.old ≤ L.faults link.new }
     ensures same { client.new.config ≡ client.old.config }
 {
@@ -76,12 +74,11 @@ fn do_all<L: Link, K: Sink>(
 ) -> Result<(), SessionError>
     requires commands { All IsCommand commands.now }
     requires few { length commands.now ≤ command_limit }
-    requires drained { IfSome (L.told link.old) (λ h. L.drained link.old ≡ record_text (whole_record h)) }
     requires fresh { HasCounted client.old first_counts }
-    ensures done { (Rose (L.faults link.old) (L.faults link.new) → ⊥) → OnOk result (
+    ensures done { IsDrained (L.told link.old) (L.drained link.old) → (Rose (L.faults link.old) (L.faults link.new) → ⊥) → OnOk result (
         Moves (L.told link.old) (L.told link.new) (λ old part. IsFor old.config client.old.config →
         IsSession commands.now (K.written sink.old) (K.written sink.new) old part)) }
-    ensures cut { (Rose (L.faults link.old) (L.faults link.new) → ⊥) → OnErr result (
+    ensures cut { IsDrained (L.told link.old) (L.drained link.old) → (Rose (L.faults link.old) (L.faults link.new) → ⊥) → OnErr result (
         Moves (L.told link.old) (L.told link.new) (λ old part. IsFor old.config client.old.config →
         IsCutSession commands.now (K.written sink.old) (K.written sink.new) old part)) }
     ensures lasts { Lasts most_session_ticks (L.told link.old) (L.told link.new) }
@@ -109,13 +106,13 @@ pub fn session<L: Link, K: Sink>(
 ) -> Result<(), SessionError>
     requires config { IsClientConfig config }
     requires commands { All IsCommand commands.now }
-    requires drained { IfSome (L.told link.old) (λ h. L.drained link.old ≡ record_text (whole_record h)) }
-    // Over a link that tells, and whose count of faults didn't rise, the output is the transcript of what happened.
-    ensures done { (Rose (L.faults link.old) (L.faults link.new) → ⊥) → OnOk result (
+    // Over a link that tells, of which all was drained before, and whose count of faults didn't rise, the output is the transcript of
+    // what happened.
+    ensures done { IsDrained (L.told link.old) (L.drained link.old) → (Rose (L.faults link.old) (L.faults link.new) → ⊥) → OnOk result (
         Moves (L.told link.old) (L.told link.new) (λ old part. IsFor old.config config →
         IsSession commands.now (K.written sink.old) (K.written sink.new) old part)) }
     // After a refusal the output is a front of such a transcript, of the first so many commands.
-    ensures cut { (Rose (L.faults link.old) (L.faults link.new) → ⊥) → OnErr result (
+    ensures cut { IsDrained (L.told link.old) (L.drained link.old) → (Rose (L.faults link.old) (L.faults link.new) → ⊥) → OnErr result (
         Moves (L.told link.old) (L.told link.new) (λ old part. IsFor old.config config →
         IsCutSession commands.now (K.written sink.old) (K.written sink.new) old part)) }
     // Whatever comes of it, a link that tells goes on telling.

@@ -11,7 +11,7 @@ use Rattle.sd_bootparams.specs.declared.draft.Draft.{Draft}
 use Rattle.sd_bootparams.specs.File.{Text, is_full, on_line, Part, HasRefusal, IsRefused, has}
 use Rattle.sd_bootparams.specs.LineByLine.{in_place, after_words, Says}
 
--- These parts are said after the old draft, or one of them is the first to be refused; want of memory says nothing.
+-- These parts are said after the old draft, or one of them is the first to be refused; out of memory says nothing.
 abbrev pub Judges : Draft → List Part → Next → Draft → Result Unit ParamsError → Type 0
 Judges old ps turn new (Ok done) = Says old ps turn new
 Judges old ps turn new (Err (errors.Bad line reason)) = HasRefusal old.params ps line reason

@@ -1,13 +1,19 @@
 -- What an answer shows was configured, and came in its part.
-use Rattle.std.proofs.Common.{ℕ, List, [], ◌∷◌, ◌++◌, refl, sym, ◌∙◌, ap}
+use Rattle.std.proofs.Common.{ℕ, List, [], ◌∷◌, ◌++◌, refl, ◌∙◌, ap}
 use Rattle.sd_config.specs.declared.config.Config.{Config}
+use Rattle.sd_config.specs.declared.stage.Stage.{Stage}
 use Rattle.sd_config.specs.declared.stage.Stage.TheVariants as stage
-use Rattle.sd_link.specs.Steps.{Step, Get}
-use Rattle.sd_link.specs.Parts.{got_in}
+use Rattle.sd_link.specs.Steps.{Step, Get, History}
+use Rattle.sd_link.specs.Link.{IsSettledBy}
+use Rattle.sd_link.specs.Parts.{sends_in, got_in, ticks_in}
 use Rattle.sd_link.proofs.Histories.{got-append}
+use Rattle.sd_config.specs.declared.command.Command.{Command}
+use Rattle.sd_config.specs.declared.command.Command.TheVariants as command
+use Rattle.sd_config.specs.declared.told.Told.TheVariants as told
 use Rattle.sd_claims.specs.Booting.{Counts, boot_fetch}
-use Rattle.sd_claims.specs.Causes.{EndsUnbuilt}
-use Rattle.sd_claims.specs.Laws.{AddressIsConfigured, ProgramIsConfigured, AddressWasTold, WasFetched, ProgramWasFetched, WaitPassed, NoFaultIsCaused}
+use Rattle.sd_claims.proofs.Began.{began_so}
+use Rattle.sd_claims.specs.Causes.{Cause, addr_ok, boot_unbuilt, wait_ok}
+use Rattle.sd_claims.specs.Laws.{AddressIsConfigured, ProgramIsConfigured, WasTold, AddressWasTold, WasFetched, ProgramWasFetched, WaitPassed, NoFaultIsCaused}
 
 pub address_is_configured : AddressIsConfigured
 address_is_configured c old new ip h = h.0
@@ -15,44 +21,45 @@ address_is_configured c old new ip h = h.0
 pub program_is_configured : ProgramIsConfigured
 program_is_configured c old new step program h = h.0.1
 
-pub address_was_told : AddressWasTold
-address_was_told c n ip part h =
-    let e = h.2.ends in
-    record {
-      earlier = got_in e.before;
-      packet = e.packet;
-      later = [];
-      learned = h.0;
-      got = ap got_in e.cut ∙ got-append e.before (Get e.id e.packet ∷ []);
-      tells = e.matched;
-      address = h.1;
-    }
+module _ (h : History) (n : Counts) where
+  was_told : (ip : ℕ) (part : List Step) → Cause (IsSettledBy h) h.config n command.Addr (told.AddrOk ip) part → WasTold h.config.client.mac ip part
+  was_told _ part (addr_ok learned _ answered) =
+      let e = answered.ends in
+      record {
+        earlier = got_in e.before;
+        packet = e.packet;
+        later = [];
+        learned = learned;
+        got = ap got_in e.cut ∙ got-append e.before (Get e.id e.packet ∷ []);
+        tells = e.matched;
+        address = refl;
+      }
 
-fetched_in : (c : Config) (n : Counts) (program : List ℕ) (part : List Step) → EndsUnbuilt c n stage.Mnt program part → WasFetched c n program part
-fetched_in c n program part h =
-    let f = h.came_of in
-    record {
-      fetch = boot_fetch c n.boots h.learned;
-      before = h.address;
-      within = f.fetch;
-      after = f.calls;
-      cut = h.cut ∙ ap (λ (l : List Step). h.address ++ l) f.cut;
-      fetched = f.fetched;
-      name = refl;
-      port = refl;
-    }
+  was_fetched : (step : Stage) (program : List ℕ) (part : List Step) → Cause (IsSettledBy h) h.config n command.Boot (told.BootUnbuilt step program) part → WasFetched h n program part
+  was_fetched _ _ part (boot_unbuilt program port _ some came) =
+      let b = began_so (IsSettledBy h) h.config n program stage.Getport came.caller came.call part came.before came.last came.cut came.to in
+      record { fetch = boot_fetch h.config n.boots b.learned; before = b.address; within = b.fetch; after = b.rest; cut = b.cut; fetched = b.fetched; name = refl; port = refl }
+
+  passed : (ticks shown : ℕ) (part : List Step) → Cause (IsSettledBy h) h.config n (command.Wait ticks) (told.WaitOk shown) part → (sends_in part ≡ []) × (ticks_in part ≡ shown)
+  passed _ _ part (wait_ok ticks _ waited) = (waited.silent, waited.passed)
+
+  no_addr : (k : Command) (part : List Step) → Cause (IsSettledBy h) h.config n k told.AddrLinkFault part → ⊥
+  no_addr k part caused = elim caused [ ]
+
+  no_boot : (k : Command) (part : List Step) → Cause (IsSettledBy h) h.config n k told.BootLinkFault part → ⊥
+  no_boot k part caused = elim caused [ ]
+
+  no_wait : (k : Command) (ticks : ℕ) (part : List Step) → Cause (IsSettledBy h) h.config n k (told.WaitLinkFault ticks) part → ⊥
+  no_wait k ticks part caused = elim caused [ ]
+
+pub address_was_told : AddressWasTold
+address_was_told h n ip part caused = was_told h n ip part caused.cause
 
 pub program_was_fetched : ProgramWasFetched
-program_was_fetched c n stage.Rarp program part h = absurd h
-program_was_fetched c n stage.Tftp program part h = absurd h
-program_was_fetched c n stage.Whoami program part h = absurd h
-program_was_fetched c n stage.Getfile program part h = absurd h
-program_was_fetched c n stage.Getport program part h = absurd h
-program_was_fetched c n stage.Mnt program part h = fetched_in c n program part h
-program_was_fetched c n stage.Wait program part h = absurd h
+program_was_fetched h n step program part caused = was_fetched h n step program part caused.cause
 
 pub wait_passed : WaitPassed
-wait_passed c n ticks shown part h = (h.1.silent, h.1.passed ∙ sym h.0)
+wait_passed h n ticks shown part caused = passed h n ticks shown part caused.cause
 
 pub no_fault_is_caused : NoFaultIsCaused
-no_fault_is_caused c n ticks shown part = (λ h. h, λ h. h, λ h. h)
+no_fault_is_caused h n k ticks part = (λ caused. no_addr h n k part caused.cause, λ caused. no_boot h n k part caused.cause, λ caused. no_wait h n k ticks part caused.cause)

@@ -1,2 +1,5 @@
-mod Counted
+pub mod Counted
+pub mod Began
 mod Came
+mod OneOutcome
+mod OneAnswer

@@ -1,13 +1,14 @@
 -- The steps of a boot, in order: RARP, TFTP from the responder, WHOAMI, GETFILE of the root, and GETPORT of MOUNT.
-use Rattle.std.specs.Prelude.{◌≡◌, ℕ, ◌+◌, ◌-◌, ◌^◌, ◌%◌, ◌<◌, List, [], ◌++◌, codes, Option, Some, None, Ok, Err}
+use Rattle.std.specs.Prelude.{◌≡◌, ℕ, ◌+◌, ◌-◌, ◌^◌, ◌%◌, List, [], ◌++◌, codes, Ok}
 use Rattle.sd_outside.specs.declared.packet.Addr.{Addr}
 use Rattle.sd_config.specs.declared.config.Config.{Config}
+use Rattle.sd_config.specs.declared.stage.Stage.{Stage}
+use Rattle.sd_config.specs.declared.stage.Stage.TheVariants.{Whoami, Getfile, Getport}
 use Rattle.sd_config.specs.Program.{program_name}
 use Rattle.sd_link.specs.Steps.{Step}
-use Rattle.sd_link.specs.Tries.{Answered, Flooded, TimedOut}
+use Rattle.sd_link.specs.Tries.{beyond, Answered, Flooded, TimedOut}
 use Rattle.sd_rpc_retry.specs.declared.calling.Ask.{Ask}
 use Rattle.sd_rpc_retry.specs.declared.calling.Ask.TheVariants as asks
-use Rattle.sd_rpc_retry.specs.declared.calling.Answer.{Answer}
 use Rattle.sd_rpc_retry.specs.declared.calling.Answer.TheVariants as answers
 use Rattle.sd_rpc_retry.specs.declared.calling.Caller.{Caller}
 use Rattle.sd_services.specs.RpcReply.{pmap_port}
@@ -25,6 +26,10 @@ first_counts = record { boots = 0; next_xid = 1 }
 
 -- ---- the address and the program
 
+-- a reply told this: the first RARP reply whose target is the client's hardware address
+abbrev pub LearnsAddress : (List Step → Type 0) → Config → Learned → List Step → Type 0
+LearnsAddress settled c learned part = Answered settled (rarp_request c.client.mac) (rarp_hearing c.client.mac) c.tries c.wait learned part
+
 -- the port of the boot that comes after so many that reached TFTP
 abbrev pub fetch_port : ℕ → ℕ
 fetch_port boots = 2048 + boots % 32768
@@ -40,13 +45,13 @@ boot_fetch c boots learned = record {
 }
 
 -- the address was told, and then this came of the fetch
-pub record AfterAddress (c : Config) (boots : ℕ) (came : Fetch → List Step → Type 0) (part : List Step) : Type 0 where
+pub record OfFetch (settled : List Step → Type 0) (c : Config) (n : Counts) (came : (List Step → Type 0) → Fetch → List Step → Type 0) (part : List Step) : Type 0 where
   pub learned : Learned
   pub address : List Step
-  pub fetch : List Step
-  pub told : Answered (rarp_request c.client.mac) (rarp_hearing c.client.mac) c.tries c.wait learned address
-  pub came_of : came (boot_fetch c boots learned) fetch
-  pub cut : part ≡ address ++ fetch
+  pub last : List Step
+  pub told : LearnsAddress settled c learned address
+  pub came_of : came (beyond settled address) (boot_fetch c n.boots learned) last
+  pub cut : part ≡ address ++ last
 
 -- ---- a call
 
@@ -63,29 +68,18 @@ caller_after f xid = record { ip = f.me.ip; port = 1021; machine = []; next_xid 
 abbrev pub after_call : Caller → Caller
 after_call caller = record caller { next_xid = caller.next_xid + 1 }
 
--- the first reply to the call that this caller makes next told this
-abbrev pub CallTold : Verdict → Caller → Call → List Step → Type 0
-CallTold verdict caller call = Answered (request caller call.dst call.ask) (hearing_of caller call.dst call.ask) caller.tries caller.wait verdict
-
--- it refused the call, by this number
-abbrev pub CallDenied : ℕ → Caller → Call → List Step → Type 0
-CallDenied code = CallTold (Err code)
+-- The first reply to the call that this caller makes next told this. It has the number of the call, goes to the caller, and
+-- comes from the address and port that were called, or after a broadcast from the portmapper of the address that it names.
+abbrev pub CallTold : Verdict → (List Step → Type 0) → Caller → Call → List Step → Type 0
+CallTold verdict settled caller call = Answered settled (request caller call.dst call.ask) (hearing_of caller call.dst call.ask) caller.tries caller.wait verdict
 
 -- all tries waited in vain
-abbrev pub CallTimedOut : Caller → Call → List Step → Type 0
-CallTimedOut caller call = TimedOut (request caller call.dst call.ask) (hearing_of caller call.dst call.ask) caller.tries caller.wait
+abbrev pub CallTimedOut : (List Step → Type 0) → Caller → Call → List Step → Type 0
+CallTimedOut settled caller call = TimedOut settled (request caller call.dst call.ask) (hearing_of caller call.dst call.ask) caller.tries caller.wait
 
 -- the last try got a flood
-abbrev pub CallFlooded : Caller → Call → List Step → Type 0
-CallFlooded caller call = Flooded (request caller call.dst call.ask) (hearing_of caller call.dst call.ask) caller.tries caller.wait
-
--- it told that the program has no port
-abbrev pub TellsNoPort : Caller → Call → List Step → Type 0
-TellsNoPort = CallTold (Ok (answers.Port 0))
-
--- it told a port
-abbrev pub TellsPort : Caller → Call → List Step → Type 0
-TellsPort caller call part = (port : ℕ) × (0 < port) × CallTold (Ok (answers.Port port)) caller call part
+abbrev pub CallFlooded : (List Step → Type 0) → Caller → Call → List Step → Type 0
+CallFlooded settled caller call = Flooded settled (request caller call.dst call.ask) (hearing_of caller call.dst call.ask) caller.tries caller.wait
 
 -- ---- the calls of a boot
 
@@ -105,35 +99,25 @@ getfile_call from client key = record { dst = portmapper from; ask = asks.Getfil
 abbrev pub getport_call : ℕ → Call
 getport_call server = record { dst = portmapper server; ask = asks.Getport 100005 1 }
 
--- which call follows an answer
-abbrev pub following : Answer → Option Call
-following (answers.Whoami from client domain router) = Some (getfile_call from client (codes "root"))
-following (answers.Getfile from server ip path) = Some (getport_call ip)
-following (answers.Port port) = None
+-- The boot came to the call of a step by this part: its program was fetched, and the calls before were answered. Each answer
+-- says whom the next call asks, and what.
+pub data ComesTo (settled : List Step → Type 0) (c : Config) (n : Counts) (program : List ℕ) : Stage → Caller → Call → List Step → Type 0 where
+  to_whoami : (learned : Learned) (address fetch : List Step) → LearnsAddress settled c learned address
+      → Fetched (beyond settled address) (boot_fetch c n.boots learned) program fetch
+      → ComesTo settled c n program Whoami (caller_after (boot_fetch c n.boots learned) n.next_xid) (whoami_call learned.address) (address ++ fetch)
+  to_getfile : (caller : Caller) (call : Call) (before last : List Step) (from : ℕ) (client domain : List ℕ) (router : ℕ) → ComesTo settled c n program Whoami caller call before
+      → CallTold (Ok (answers.Whoami from client domain router)) (beyond settled before) caller call last
+      → ComesTo settled c n program Getfile (after_call caller) (getfile_call from client (codes "root")) (before ++ last)
+  to_getport : (caller : Caller) (call : Call) (before last : List Step) (from : ℕ) (server : List ℕ) (ip : ℕ) (path : List ℕ) → ComesTo settled c n program Getfile caller call before
+      → CallTold (Ok (answers.Getfile from server ip path)) (beyond settled before) caller call last
+      → ComesTo settled c n program Getport (after_call caller) (getport_call ip) (before ++ last)
 
--- the call was answered, and then this came of the call that follows
-pub record AfterCall (came : Caller → Call → List Step → Type 0) (caller : Caller) (call : Call) (part : List Step) : Type 0 where
-  pub answer : Answer
-  pub next : Call
-  pub first : List Step
-  pub more : List Step
-  pub told : CallTold (Ok answer) caller call first
-  pub follows : following answer ≡ Some next
-  pub came_of : came (after_call caller) next more
-  pub cut : part ≡ first ++ more
-
--- the program was fetched, and then this came of WHOAMI, which takes this number
-pub record AfterFetch (program : List ℕ) (xid : ℕ) (came : Caller → Call → List Step → Type 0) (f : Fetch) (part : List Step) : Type 0 where
-  pub fetch : List Step
-  pub calls : List Step
-  pub fetched : Fetched f program fetch
-  pub came_of : came (caller_after f xid) (whoami_call f.me.ip) calls
-  pub cut : part ≡ fetch ++ calls
-
--- the address was told, this program was fetched, and then this came of WHOAMI
-abbrev pub AfterProgram : Config → Counts → List ℕ → (Caller → Call → List Step → Type 0) → List Step → Type 0
-AfterProgram c n program came = AfterAddress c n.boots (AfterFetch program n.next_xid came)
-
--- the same, whatever the program is
-abbrev pub AfterSomeProgram : Config → Counts → (Caller → Call → List Step → Type 0) → List Step → Type 0
-AfterSomeProgram c n came part = (program : List ℕ) × AfterProgram c n program came part
+-- the boot came to the call of a step, and then this came of the call
+pub record OfCall (settled : List Step → Type 0) (c : Config) (n : Counts) (program : List ℕ) (step : Stage) (came : (List Step → Type 0) → Caller → Call → List Step → Type 0) (part : List Step) : Type 0 where
+  pub caller : Caller
+  pub call : Call
+  pub before : List Step
+  pub last : List Step
+  pub to : ComesTo settled c n program step caller call before
+  pub came_of : came (beyond settled before) caller call last
+  pub cut : part ≡ before ++ last

@@ -6,7 +6,7 @@ use Rattle.sd_link.specs.World.{World}
 use Rattle.sd_link.specs.Steps.{Step, Entry, History, run, record_of, world_of, whole_record}
 use Rattle.sd_link.specs.Lawful.{AllGot, Settles, SendsSettled, EndsWithGet}
 use Rattle.sd_config.specs.declared.told.Told.{Told}
-use Rattle.sd_config.specs.declared.told.Told.TheVariants.{AddrOk, AddrTimeout, AddrFlood, AddrLinkFault, BootUnbuilt, BootTimeout, BootFlood, BootDenied, BootRefused, BootNoPort, BootTooLarge, BootLinkFault, WaitOk, WaitFlood, WaitLinkFault}
+use Rattle.sd_config.specs.declared.told.Told.TheVariants.{AddrOk, AddrTimeout, AddrFlood, WaitOk}
 use Rattle.sd_claims.specs.Transcript.{Done}
 
 -- Of a command that was done in these steps. Where nothing waited at first, the client sends only where nothing waits.
@@ -16,20 +16,10 @@ Ends c fates w entries (AddrOk ip) part = EndsWithGet part × (AllGot c fates w 
 -- what was given up ends where nothing waits
 Ends c fates w entries AddrTimeout part = AllGot c fates w entries → SendsSettled c fates w entries part × Settles c fates w entries part
 Ends c fates w entries (AddrFlood step) part = AllGot c fates w entries → SendsSettled c fates w entries part
-Ends c fates w entries AddrLinkFault part = Unit {0}
--- nothing is said of a boot
-Ends c fates w entries (BootUnbuilt step program) part = Unit {0}
-Ends c fates w entries (BootTimeout step) part = Unit {0}
-Ends c fates w entries (BootFlood step) part = Unit {0}
-Ends c fates w entries (BootDenied step code) part = Unit {0}
-Ends c fates w entries (BootRefused step code) part = Unit {0}
-Ends c fates w entries BootNoPort part = Unit {0}
-Ends c fates w entries (BootTooLarge size) part = Unit {0}
-Ends c fates w entries BootLinkFault part = Unit {0}
 -- a pause that wasn't cut short ends where nothing waits
 Ends c fates w entries (WaitOk shown) part = Settles c fates w entries part
-Ends c fates w entries (WaitFlood shown) part = Unit {0}
-Ends c fates w entries (WaitLinkFault shown) part = Unit {0}
+-- of a boot its causes say which tries end where nothing waits
+Ends c fates w entries answer part = Unit {0}
 
 -- the same, of a command after this history
 abbrev pub EndsAfter : History → Told → List Step → Type 0

@@ -15,7 +15,7 @@ use Rattle.sd_tftp.specs.Reception.{Reception, fresh}
 use Rattle.sd_tftp.specs.ReceiverTurn.{Turn, turn, ignored}
 use Rattle.sd_services.specs.Sessions.{tftp_port}
 use Rattle.sd_link.specs.Steps.{Step, Send}
-use Rattle.sd_link.specs.Tries.{Hearing, Answered, Flooded, TimedOut}
+use Rattle.sd_link.specs.Tries.{Hearing, beyond, Answered, Flooded, TimedOut}
 
 -- what is fetched: by which address and port, from which address, under which name, and how patiently
 pub record Fetch : Type 0 where
@@ -84,54 +84,55 @@ fetch_hearing me r = record { match = λ packet. progress (turn_on me r packet).
 
 -- ---- what comes of it
 
--- the next turn of the transfer comes within the tries of its request
-abbrev pub Brings : Fetch → Reception → Turn → List Step → Type 0
-Brings f r t part = Answered (request_of f r) (fetch_hearing f.me r) f.tries f.wait t part
+-- The next turn of the transfer comes within the tries of its request. The receiver takes a block from the server's address
+-- alone, and every block after the first from the port of the first.
+abbrev pub Brings : (List Step → Type 0) → Fetch → Reception → Turn → List Step → Type 0
+Brings settled f r t part = Answered settled (request_of f r) (fetch_hearing f.me r) f.tries f.wait t part
 
 -- A block that isn't the last came.
 abbrev pub IsBlock : answers.Step → Type 0
 IsBlock says = (to : Addr) × (n : ℕ) × (says ≡ step.Took to n false)
 
 -- block after block came, none of them the last
-pub data Takes (f : Fetch) : List Step → Reception → Type 0 where
-  takes_none : Takes f [] (fresh f.server)
-  takes_block : (part more : List Step) (r : Reception) (t : Turn) → Takes f part r → Brings f r t more → IsBlock t.says → Takes f (part ++ more) t.becomes
+pub data Takes (settled : List Step → Type 0) (f : Fetch) : List Step → Reception → Type 0 where
+  takes_none : Takes settled f [] (fresh f.server)
+  takes_block : (part more : List Step) (r : Reception) (t : Turn) → Takes settled f part r → Brings (beyond settled part) f r t more → IsBlock t.says → Takes settled f (part ++ more) t.becomes
 
 -- the last block came and was acknowledged, and the joined blocks are these bytes
-pub record Fetched (f : Fetch) (bytes : List ℕ) (part : List Step) : Type 0 where
+pub record Fetched (settled : List Step → Type 0) (f : Fetch) (bytes : List ℕ) (part : List Step) : Type 0 where
   pub before : List Step
   pub last : List Step
   pub taken : Reception
   pub final : Turn
   pub to : Addr
   pub number : ℕ
-  pub takes : Takes f before taken
-  pub brings : Brings f taken final last
+  pub takes : Takes settled f before taken
+  pub brings : Brings (beyond settled before) f taken final last
   pub says : final.says ≡ step.Took to number true
   pub joined : bytes ≡ concat final.becomes.blocks
   pub cut : part ≡ before ++ (last ++ Send (acknowledge f.me to number) ∷ [])
 
 -- after so many blocks this came
-pub record Stops (f : Fetch) (why : Reception → List Step → Type 0) (part : List Step) : Type 0 where
+pub record Stops (settled : List Step → Type 0) (f : Fetch) (why : (List Step → Type 0) → Reception → List Step → Type 0) (part : List Step) : Type 0 where
   pub before : List Step
   pub last : List Step
   pub taken : Reception
-  pub takes : Takes f before taken
-  pub stopped : why taken last
+  pub takes : Takes settled f before taken
+  pub stopped : why (beyond settled before) taken last
   pub cut : part ≡ before ++ last
 
 -- no block and no ERROR came within the tries of a request
-abbrev pub FetchTimedOut : Fetch → List Step → Type 0
-FetchTimedOut f = Stops f (λ r last. TimedOut (request_of f r) (fetch_hearing f.me r) f.tries f.wait last)
+abbrev pub FetchTimedOut : (List Step → Type 0) → Fetch → List Step → Type 0
+FetchTimedOut settled f = Stops settled f (λ still r last. TimedOut still (request_of f r) (fetch_hearing f.me r) f.tries f.wait last)
 
 -- a try got a flood
-abbrev pub FetchFlooded : Fetch → List Step → Type 0
-FetchFlooded f = Stops f (λ r last. Flooded (request_of f r) (fetch_hearing f.me r) f.tries f.wait last)
+abbrev pub FetchFlooded : (List Step → Type 0) → Fetch → List Step → Type 0
+FetchFlooded settled f = Stops settled f (λ still r last. Flooded still (request_of f r) (fetch_hearing f.me r) f.tries f.wait last)
 
 -- an ERROR with this code came
-abbrev pub FetchRefused : Fetch → ℕ → List Step → Type 0
-FetchRefused f code = Stops f (λ r last. (t : Turn) × Brings f r t last × (t.says ≡ step.Refused code))
+abbrev pub FetchRefused : ℕ → (List Step → Type 0) → Fetch → List Step → Type 0
+FetchRefused code settled f = Stops settled f (λ still r last. (t : Turn) × Brings still f r t last × (t.says ≡ step.Refused code))
 
 -- the last number came and the file goes on; so many bytes came
-abbrev pub FetchTooLarge : Fetch → ℕ → List Step → Type 0
-FetchTooLarge f size = Stops f (λ r last. (t : Turn) × Brings f r t last × (t.says ≡ step.Over size))
+abbrev pub FetchTooLarge : ℕ → (List Step → Type 0) → Fetch → List Step → Type 0
+FetchTooLarge size settled f = Stops settled f (λ still r last. (t : Turn) × Brings still f r t last × (t.says ≡ step.Over size))

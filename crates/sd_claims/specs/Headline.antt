@@ -5,12 +5,12 @@ use Rattle.std.specs.Fmt.{decimal}
 use Rattle.sd_outside.specs.Streams.{Gains}
 use Rattle.sd_link.specs.World.{start}
 use Rattle.sd_config.specs.Events.{fates_of}
-use Rattle.sd_link.specs.Lawful.{IsLawful, IsFrontOf}
+use Rattle.sd_link.specs.Lawful.{IsLawful, EndsAtRest, IsFrontOf, Settles}
 use Rattle.sd_config.specs.declared.command.Command.{Command}
 use Rattle.sd_config.specs.declared.command.Command.TheVariants.{Boot}
 use Rattle.sd_script.specs.declared.script.Script.{Script}
 use Rattle.sd_config.specs.declared.told.Told.{Told}
-use Rattle.sd_config.specs.declared.told.Told.TheVariants.{AddrOk, AddrTimeout, AddrFlood, AddrLinkFault, BootUnbuilt, BootTimeout, BootFlood, BootDenied, BootRefused, BootNoPort, BootTooLarge, BootLinkFault, WaitOk, WaitFlood, WaitLinkFault}
+use Rattle.sd_config.specs.declared.told.Told.TheVariants.{AddrOk, WaitOk}
 use Rattle.sd_script.specs.Grammar.{IsScript, IsFirstOutside}
 use Rattle.sd_claims.specs.Booting.{first_counts}
 use Rattle.sd_claims.specs.Machine.{first_state, IsRun}
@@ -26,27 +26,16 @@ pub record IsCalm (s : Script) : Type 0 where
 -- the command had its effect
 abbrev pub IsOk : Told → Type 0
 IsOk (AddrOk ip) = Unit {0}
-IsOk AddrTimeout = ⊥
-IsOk (AddrFlood step) = ⊥
-IsOk AddrLinkFault = ⊥
-IsOk (BootUnbuilt step program) = ⊥
-IsOk (BootTimeout step) = ⊥
-IsOk (BootFlood step) = ⊥
-IsOk (BootDenied step code) = ⊥
-IsOk (BootRefused step code) = ⊥
-IsOk BootNoPort = ⊥
-IsOk (BootTooLarge size) = ⊥
-IsOk BootLinkFault = ⊥
 IsOk (WaitOk shown) = Unit {0}
-IsOk (WaitFlood shown) = ⊥
-IsOk (WaitLinkFault shown) = ⊥
+IsOk answer = ⊥
 
--- These commands of the script were done so: the run is one that the network owes the script, from the start on;
--- the answers are those of the boot machine; each is earned or caused by its part; and in a calm script all are ok.
+-- These commands of the script were done so: the run is one that the network owes the script, from the start on, and it ends where
+-- the server has done all that was due to it; the answers are those of the boot machine; each is earned or caused by its part; and in a calm script all are ok.
 pub record AreDone (s : Script) (commands : List Command) (done : List Done) : Type 0 where
   pub lawful : IsLawful s.config (fates_of s.events) (parts_of done)
+  pub rests : EndsAtRest s.config (fates_of s.events) (parts_of done)
   pub machine : IsRun s.config first_state commands (map (λ d. d.answer) done)
-  pub caused : AllCaused s.config first_counts commands done
+  pub caused : AllCaused (Settles s.config (fates_of s.events) (start s.config) []) s.config first_counts commands done
   pub complete : IsCalm s → AllByRecursion (λ d. IsOk d.answer) done
 
 abbrev pub written : Script → List Done → List ℕ

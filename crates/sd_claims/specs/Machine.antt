@@ -22,17 +22,7 @@ IsAddrAnswer c (AddrOk ip) = ip ≡ c.client.ip
 IsAddrAnswer c AddrTimeout = Unit {0}
 IsAddrAnswer c (AddrFlood step) = Unit {0}
 IsAddrAnswer c AddrLinkFault = Unit {0}
-IsAddrAnswer c (BootUnbuilt step program) = ⊥
-IsAddrAnswer c (BootTimeout step) = ⊥
-IsAddrAnswer c (BootFlood step) = ⊥
-IsAddrAnswer c (BootDenied step code) = ⊥
-IsAddrAnswer c (BootRefused step code) = ⊥
-IsAddrAnswer c BootNoPort = ⊥
-IsAddrAnswer c (BootTooLarge size) = ⊥
-IsAddrAnswer c BootLinkFault = ⊥
-IsAddrAnswer c (WaitOk shown) = ⊥
-IsAddrAnswer c (WaitFlood shown) = ⊥
-IsAddrAnswer c (WaitLinkFault shown) = ⊥
+IsAddrAnswer c answer = ⊥
 
 -- what `boot` may be answered: the configured program, where the step after it isn't built, or a refusal of the network
 abbrev pub IsBootAnswer : Config → Told → Type 0
@@ -44,31 +34,14 @@ IsBootAnswer c (BootRefused step code) = Unit {0}
 IsBootAnswer c BootNoPort = Unit {0}
 IsBootAnswer c (BootTooLarge size) = Unit {0}
 IsBootAnswer c BootLinkFault = Unit {0}
-IsBootAnswer c (AddrOk ip) = ⊥
-IsBootAnswer c AddrTimeout = ⊥
-IsBootAnswer c (AddrFlood step) = ⊥
-IsBootAnswer c AddrLinkFault = ⊥
-IsBootAnswer c (WaitOk shown) = ⊥
-IsBootAnswer c (WaitFlood shown) = ⊥
-IsBootAnswer c (WaitLinkFault shown) = ⊥
+IsBootAnswer c answer = ⊥
 
 -- what `wait` may be answered
 abbrev pub IsWaitAnswer : ℕ → Told → Type 0
 IsWaitAnswer ticks (WaitOk shown) = shown ≡ ticks
 IsWaitAnswer ticks (WaitFlood shown) = shown ≡ ticks
 IsWaitAnswer ticks (WaitLinkFault shown) = shown ≡ ticks
-IsWaitAnswer ticks (AddrOk ip) = ⊥
-IsWaitAnswer ticks AddrTimeout = ⊥
-IsWaitAnswer ticks (AddrFlood step) = ⊥
-IsWaitAnswer ticks AddrLinkFault = ⊥
-IsWaitAnswer ticks (BootUnbuilt step program) = ⊥
-IsWaitAnswer ticks (BootTimeout step) = ⊥
-IsWaitAnswer ticks (BootFlood step) = ⊥
-IsWaitAnswer ticks (BootDenied step code) = ⊥
-IsWaitAnswer ticks (BootRefused step code) = ⊥
-IsWaitAnswer ticks BootNoPort = ⊥
-IsWaitAnswer ticks (BootTooLarge size) = ⊥
-IsWaitAnswer ticks BootLinkFault = ⊥
+IsWaitAnswer ticks answer = ⊥
 
 -- From old, the machine may answer this and go on to new.
 abbrev pub Answers : Config → State → Command → Told → State → Type 0

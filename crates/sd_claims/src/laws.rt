@@ -1,6 +1,6 @@
 //! What holds of the claims, each on a function that does nothing: the contract is the law.
 
-ghost use Rattle.sd_claims.specs.Laws.{AddressIsConfigured, ProgramIsConfigured, AddressWasTold, ProgramWasFetched, WaitPassed, NoFaultIsCaused, UncountedBoot, UncountedCalls, PortsDiffer};
+ghost use Rattle.sd_claims.specs.Laws.{AddressIsConfigured, ProgramIsConfigured, AddressWasTold, ProgramWasFetched, WaitPassed, HasOneAnswer, NoFaultIsCaused, UncountedBoot, UncountedCalls, PortsDiffer};
 
 /// What the boot machine shows is what was configured.
 pub fn shows_what_is_configured()
@@ -13,6 +13,11 @@ pub fn shows_what_came()
     ensures address { AddressWasTold }
     ensures program { ProgramWasFetched }
     ensures wait { WaitPassed }
+{}
+
+/// One part, state and command have one answer.
+pub fn has_one_answer()
+    ensures { HasOneAnswer }
 {}
 
 /// No fault of the network has a cause where the network doesn't fail.

@@ -8,10 +8,10 @@ use Rattle.sd_services.specs.Part.{Session}
 use Rattle.sd_link.specs.Steps.{Step, Tick, Send, Serve, Data, End, Get, Entry, after, entries_of, run, AllAllowed, record_of, served, resent, History, world_of, whole_record, IsLawfulSoFar}
 use Rattle.sd_services.specs.Sessions.{session_in}
 use Rattle.sd_link.specs.Parts.{sends_in, got_in, ticks_in}
-use Rattle.sd_link.specs.Link.{GoesOn, Moves, TicksBefore, NothingWaits, IsSettledBy}
+use Rattle.sd_link.specs.Link.{GoesOn, Moves, TicksBefore, NothingWaits, IsSettledBy, IsAtRest, IsAtRestBy}
 use Rattle.sd_config.specs.declared.events.Events.{Events}
 use Rattle.sd_config.specs.Events.{Fates, fates_of}
-use Rattle.sd_link.specs.Lawful.{AllInTurn, AllGot}
+use Rattle.sd_link.specs.Lawful.{AllInTurn, AllGot, ServerRests}
 
 -- ---- lists of steps
 
@@ -101,29 +101,40 @@ before-bound until c w (Get id packet ∷ xs) le h = before-bound until c w xs l
 
 -- ---- histories
 
+-- the world moves by the part
+world_by : (a b : History) (xs : List Step) → b.config ≡ a.config → b.steps ≡ a.steps ++ xs → world_of b ≡ run a.config (world_of a) xs
+world_by a b xs config steps =
+    ap (λ (c : Config). run c (start c) b.steps) config
+    ∙ ap (λ (l : List Step). run a.config (start a.config) l) steps
+    ∙ run-append a.config (start a.config) a.steps xs
+
+pub world-goes : (a b : History) (xs : List Step) → GoesOn a b xs → world_of b ≡ run a.config (world_of a) xs
+world-goes a b xs goes = world_by a b xs goes.config goes.steps
+
 pub goes_nowhere : (h : History) → GoesOn h h []
-goes_nowhere h = record { config = refl; events = refl; steps = sym (append-nil h.steps); lawful = λ l. l }
+goes_nowhere h = record { config = refl; events = refl; steps = sym (append-nil h.steps); allowed = tt }
 
 pub goes_then : (a b c : History) (xs ys : List Step) → GoesOn a b xs → GoesOn b c ys → GoesOn a c (xs ++ ys)
 goes_then a b c xs ys first second = record {
   config = second.config ∙ first.config;
   events = second.events ∙ first.events;
   steps = second.steps ∙ ap (λ (l : List Step). l ++ ys) first.steps ∙ append_assoc a.steps xs ys;
-  lawful = λ l. second.lawful (first.lawful l);
+  allowed =
+      allowed-append a.config (world_of a) xs ys first.allowed
+      (subst (λ (w : World). AllAllowed a.config w ys) (world-goes a b xs first)
+      (subst (λ (k : Config). AllAllowed k (world_of b) ys) first.config second.allowed));
 }
 
--- the world moves by the part
-pub world-goes : (a b : History) (xs : List Step) → GoesOn a b xs → world_of b ≡ run a.config (world_of a) xs
-world-goes a b xs goes =
-    ap (λ (c : Config). run c (start c) b.steps) goes.config
-    ∙ ap (λ (l : List Step). run a.config (start a.config) l) goes.steps
-    ∙ run-append a.config (start a.config) a.steps xs
-
--- where what came before may all happen, the part may happen after it
-pub allowed-goes : (a b : History) (xs : List Step) → GoesOn a b xs → IsLawfulSoFar a → AllAllowed a.config (world_of a) xs
-allowed-goes a b xs goes lawful =
-    let whole = subst (λ (c : Config). AllAllowed c (start c) b.steps) goes.config (goes.lawful lawful) in
-    (allowed-split a.config (start a.config) a.steps xs (subst (λ (l : List Step). AllAllowed a.config (start a.config) l) goes.steps whole)).1
+-- where all of a history may happen, its last part may
+pub goes_lawful : (a b : History) (xs : List Step) → b.config ≡ a.config → b.events ≡ a.events → b.steps ≡ a.steps ++ xs → IsLawfulSoFar b → GoesOn a b xs
+goes_lawful a b xs config events steps lawful =
+    let whole = subst (λ (c : Config). AllAllowed c (start c) b.steps) config lawful in
+    record {
+      config = config;
+      events = events;
+      steps = steps;
+      allowed = (allowed-split a.config (start a.config) a.steps xs (subst (λ (l : List Step). AllAllowed a.config (start a.config) l) steps whole)).1;
+    }
 
 -- the record goes on with the history
 pub record-goes : (a b : History) (xs : List Step) → GoesOn a b xs → whole_record b ≡ whole_record a ++ record_of a.config (world_of a) xs
@@ -147,6 +158,27 @@ settled-there a b xs goes settled =
     (subst (λ (e : Events). AllGot a.config (fates_of e) (world_of b) (whole_record b)) (sym goes.events)
     (subst (λ (w : World). AllGot a.config (fates_of a.events) w (whole_record b)) (sym (world-goes a b xs goes))
     (subst (λ (l : List Entry). AllGot a.config (fates_of a.events) (run a.config (world_of a) xs) l) (sym (record-goes a b xs goes)) settled)))
+
+-- the same of the server's rest
+pub rests-goes : (a b : History) (xs : List Step) → GoesOn a b xs → IsAtRest b → IsAtRestBy a xs
+rests-goes a b xs goes rests =
+    subst (λ (l : List Entry). ServerRests a.config (fates_of a.events) (run a.config (world_of a) xs) l) (record-goes a b xs goes)
+    (subst (λ (w : World). ServerRests a.config (fates_of a.events) w (whole_record b)) (world-goes a b xs goes)
+    (subst (λ (e : Events). ServerRests a.config (fates_of e) (world_of b) (whole_record b)) goes.events
+    (subst (λ (c : Config). ServerRests c (fates_of b.events) (world_of b) (whole_record b)) goes.config rests)))
+
+-- where the server rests after a part, it rests after that part behind another
+pub rests-then : (a b : History) (xs ys : List Step) → GoesOn a b xs → IsAtRestBy b ys → IsAtRestBy a (xs ++ ys)
+rests-then a b xs ys goes rests =
+    let there = run a.config (world_of a) xs in
+    let lines : (whole_record a ++ record_of a.config (world_of a) xs) ++ record_of a.config there ys ≡ whole_record a ++ record_of a.config (world_of a) (xs ++ ys) =
+    append_assoc (whole_record a) (record_of a.config (world_of a) xs) (record_of a.config there ys) ∙ ap (λ (l : List Entry). whole_record a ++ l) (sym (record-append a.config (world_of a) xs ys)) in
+    subst (λ (l : List Entry). ServerRests a.config (fates_of a.events) (run a.config (world_of a) (xs ++ ys)) l) lines
+    (subst (λ (w : World). ServerRests a.config (fates_of a.events) w ((whole_record a ++ record_of a.config (world_of a) xs) ++ record_of a.config there ys)) (sym (run-append a.config (world_of a) xs ys))
+    (subst (λ (l : List Entry). ServerRests a.config (fates_of a.events) (run a.config there ys) (l ++ record_of a.config there ys)) (record-goes a b xs goes)
+    (subst (λ (w : World). ServerRests a.config (fates_of a.events) (run a.config w ys) (whole_record b ++ record_of a.config w ys)) (world-goes a b xs goes)
+    (subst (λ (e : Events). ServerRests a.config (fates_of e) (run a.config (world_of b) ys) (whole_record b ++ record_of a.config (world_of b) ys)) goes.events
+    (subst (λ (c : Config). ServerRests c (fates_of b.events) (run c (world_of b) ys) (whole_record b ++ record_of c (world_of b) ys)) goes.config rests)))))
 
 -- ---- what links tell
 

@@ -96,6 +96,10 @@ abbrev pub AllInTurn : Config → Fates → World → List Entry → List Step �
 AllInTurn c fates w entries [] = Unit {0}
 AllInTurn c fates w entries (step ∷ steps) = InTurn c fates w entries step × AllInTurn c fates (after c w step) (entries ++ entries_of c w step) steps
 
+-- The steps end where the server is done with the last tick. What waits for the client may be left.
+abbrev pub EndsAtRest : Config → Fates → List Step → Type 0
+EndsAtRest c fates steps = ServerRests c fates (run c (start c) steps) (record_of c (start c) steps)
+
 -- each step may happen, and comes in its turn
 pub record IsLawful (c : Config) (fates : Fates) (steps : List Step) : Type 0 where
   pub allowed : AllAllowed c (start c) steps

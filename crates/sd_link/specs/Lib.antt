@@ -4,8 +4,6 @@ pub mod Requests
 pub mod Parts
 pub mod Link
 pub mod Tries
-pub mod Texts
-pub mod Runs
 pub mod Printing
 pub mod Lawful
 pub mod MemLinks

@@ -7,16 +7,17 @@ use Rattle.sd_link.specs.declared.link.LinkError.TheVariants.{Failed, NoMemory}
 use Rattle.sd_config.specs.declared.config.Config.{Config}
 use Rattle.sd_link.specs.World.{World}
 use Rattle.sd_config.specs.Events.{fates_of}
-use Rattle.sd_link.specs.Lawful.{AllGot, Settles}
-use Rattle.sd_link.specs.Steps.{Step, Tick, Send, Serve, Data, End, Get, History, after, run, world_of, whole_record, IsLawfulSoFar}
+use Rattle.sd_link.specs.Lawful.{AllGot, Settles, ServerRests, EndsAtRest}
+use Rattle.sd_link.specs.Steps.{Step, Tick, Send, Serve, Data, End, Get, History, after, run, record_of, AllAllowed, world_of, whole_record, IsLawfulSoFar}
 use Rattle.sd_link.specs.Parts.{sends_in, got_in}
+use Rattle.sd_link.specs.Printing.{record_text}
 
--- The history goes on by this part, whose steps may all happen, under the same configuration and events.
+-- The history goes on by this part, each of whose steps may happen where it stands, under the same configuration and events.
 pub record GoesOn (old new : History) (part : List Step) : Type 0 where
   pub config : new.config ≡ old.config
   pub events : new.events ≡ old.events
   pub steps : new.steps ≡ old.steps ++ part
-  pub lawful : IsLawfulSoFar old → IsLawfulSoFar new
+  pub allowed : AllAllowed old.config (world_of old) part
 
 -- A link that tells goes on telling, and its history goes on by a part of which P holds.
 abbrev pub Moves : Option History → Option History → (History → List Step → Type 0) → Type 0
@@ -29,7 +30,9 @@ Moves (Some old) None P = ⊥
 abbrev pub last_tick : ℕ
 last_tick = 2 ^ 62
 
-pub record IsBounded (h : History) : Type 0 where
+-- Each step was one that may happen, and the world to which they lead is within these bounds.
+pub record IsReached (h : History) : Type 0 where
+  pub lawful : IsLawfulSoFar h
   pub tick : (world_of h).tick ≤ last_tick
   pub ids : length (world_of h).flight ≤ last_tick
 
@@ -61,6 +64,14 @@ NothingWaits h = AllGot h.config (fates_of h.events) (world_of h) (whole_record 
 abbrev pub IsSettledBy : History → List Step → Type 0
 IsSettledBy old part = Settles old.config (fates_of old.events) (world_of old) (whole_record old) part
 
+-- the server is done with the tick at which the history stands
+abbrev pub IsAtRest : History → Type 0
+IsAtRest h = EndsAtRest h.config (fates_of h.events) h.steps
+
+-- and so it is after this part
+abbrev pub IsAtRestBy : History → List Step → Type 0
+IsAtRestBy old part = ServerRests old.config (fates_of old.events) (run old.config (world_of old) part) (whole_record old ++ record_of old.config (world_of old) part)
+
 -- What came of the waiting: a packet is got by the last step alone. None is got where none is handed out, and then the
 -- tick is reached and nothing that is due still waits.
 abbrev pub Hands : ℕ → Result (Option Packet) LinkError → History → List Step → Type 0
@@ -88,3 +99,7 @@ Counts before now (Err why) = now ≡ before
 -- what a drain adds to the text is what it gave
 abbrev pub Drains : List ℕ → List ℕ → List ℕ → List ℕ → Type 0
 Drains old new text_old text_new = (added : List ℕ) × (new ≡ old ++ added) × (text_new ≡ text_old ++ added)
+
+-- all that happened was drained, where it is told
+abbrev pub IsDrained : Option History → List ℕ → Type 0
+IsDrained told drained = IfSome told (λ h. drained ≡ record_text (whole_record h))

@@ -1,5 +1,5 @@
 -- A request that is sent again and again until its answer comes.
-use Rattle.std.specs.Prelude.{◌≡◌, ℕ, ◌<◌, ◌≤◌, List, [], ◌∷◌, ◌++◌, length, Option, Some, None}
+use Rattle.std.specs.Prelude.{◌≡◌, ℕ, ◌<◌, ◌≤◌, List, [], ◌∷◌, ◌++◌, length, map, Option, Some, None}
 use Rattle.std.specs.List.{flat_map, AllByRecursion}
 use Rattle.sd_outside.specs.declared.packet.Packet.{Packet}
 use Rattle.sd_link.specs.Steps.{Step, Send, Get}
@@ -18,25 +18,51 @@ flood_limit = 4096
 abbrev pub AreUnmatched : {A : Type 0} → (Packet → Option A) → List Packet → Type 0
 AreUnmatched match packets = AllByRecursion (λ packet. match packet ≡ None) packets
 
+-- these steps, with what is sent for each packet right behind its getting
+abbrev pub with_replies : (Packet → List Packet) → List Step → List Step
+with_replies replies [] = []
+with_replies replies (Get id packet ∷ steps) = Get id packet ∷ (map Send (replies packet) ++ with_replies replies steps)
+with_replies replies (step ∷ steps) = step ∷ with_replies replies steps
+
+-- For each packet that it gets in these steps the client sends at once what it sends for it, and nothing else.
+pub record RepliesAtOnce (replies : Packet → List Packet) (steps : List Step) : Type 0 where
+  pub others : List Step
+  pub silent : sends_in others ≡ []
+  pub steps_are : steps ≡ with_replies replies others
+
 -- The part is tries of this request, one after another: each is a send, and then steps in which the client sends only what it
 -- sends for the packets that it gets.
 pub record IsTries (request : Packet) (replies : Packet → List Packet) (rests : List (List Step)) (part : List Step) : Type 0 where
   pub cut : part ≡ flat_map (λ rest. Send request ∷ rest) rests
-  pub replied : AllByRecursion (λ rest. sends_in rest ≡ flat_map replies (got_in rest)) rests
+  pub replied : AllByRecursion (RepliesAtOnce replies) rests
 
--- these tries waited so many ticks each, and each got fewer packets than a flood
-pub record AreInVain (wait : ℕ) (rests : List (List Step)) : Type 0 where
+-- ---- what is still on its way
+
+-- Below, `settled` tells of the first steps of a part whether nothing that is due still waits for the client after them.
+
+-- the same, of the steps beyond these
+abbrev pub beyond : (List Step → Type 0) → List Step → List Step → Type 0
+beyond settled part steps = settled (part ++ steps)
+
+-- each of these tries ends where nothing that is due still waits: a packet that comes at the last tick of a try belongs to it
+abbrev pub AllSettle : (List Step → Type 0) → Packet → List (List Step) → Type 0
+AllSettle settled request [] = Unit {0}
+AllSettle settled request (rest ∷ rests) = settled (Send request ∷ rest) × AllSettle (beyond settled (Send request ∷ rest)) request rests
+
+-- these tries waited so many ticks each, each got fewer packets than a flood, and each ended where nothing still waited
+pub record AreInVain (settled : List Step → Type 0) (request : Packet) (wait : ℕ) (rests : List (List Step)) : Type 0 where
   pub waited : AllByRecursion (λ rest. ticks_in rest ≡ wait) rests
   pub calm : AllByRecursion (λ rest. length (got_in rest) < flood_limit) rests
+  pub settles : AllSettle settled request rests
 
 -- The client asks nothing but this, at most so often. All tries but the last were in vain, and the last waits no longer
 -- and gets no more packets than a flood.
-pub record Asks (request : Packet) (replies : Packet → List Packet) (tries wait : ℕ) (part : List Step) : Type 0 where
+pub record Asks (settled : List Step → Type 0) (request : Packet) (replies : Packet → List Packet) (tries wait : ℕ) (part : List Step) : Type 0 where
   pub before : List (List Step)
   pub last : List Step
   pub is : IsTries request replies (before ++ last ∷ []) part
   pub few : length before < tries
-  pub vain : AreInVain wait before
+  pub vain : AreInVain settled request wait before
   pub short : ticks_in last ≤ wait
   pub most : length (got_in last) ≤ flood_limit
 
@@ -50,20 +76,20 @@ pub record EndsMatched {A : Type 0} (match : Packet → Option A) (x : A) (part 
   pub unmatched : AreUnmatched match (got_in before)
 
 -- the first packet that matches gives this
-pub record Answered {A : Type 0} (request : Packet) (hearing : Hearing A) (tries wait : ℕ) (x : A) (part : List Step) : Type 0 where
-  pub asks : Asks request hearing.replies tries wait part
+pub record Answered {A : Type 0} (settled : List Step → Type 0) (request : Packet) (hearing : Hearing A) (tries wait : ℕ) (x : A) (part : List Step) : Type 0 where
+  pub asks : Asks settled request hearing.replies tries wait part
   pub ends : EndsMatched hearing.match x part
 
 -- the last try got a flood, and nothing that was got matched
-pub record Flooded {A : Type 0} (request : Packet) (hearing : Hearing A) (tries wait : ℕ) (part : List Step) : Type 0 where
-  pub asks : Asks request hearing.replies tries wait part
+pub record Flooded {A : Type 0} (settled : List Step → Type 0) (request : Packet) (hearing : Hearing A) (tries wait : ℕ) (part : List Step) : Type 0 where
+  pub asks : Asks settled request hearing.replies tries wait part
   pub many : length (got_in asks.last) ≡ flood_limit
   pub unmatched : AreUnmatched hearing.match (got_in part)
 
 -- all tries were made, all in vain, and nothing that was got matched
-pub record TimedOut {A : Type 0} (request : Packet) (hearing : Hearing A) (tries wait : ℕ) (part : List Step) : Type 0 where
+pub record TimedOut {A : Type 0} (settled : List Step → Type 0) (request : Packet) (hearing : Hearing A) (tries wait : ℕ) (part : List Step) : Type 0 where
   pub rests : List (List Step)
   pub is : IsTries request hearing.replies rests part
   pub all : length rests ≡ tries
-  pub vain : AreInVain wait rests
+  pub vain : AreInVain settled request wait rests
   pub unmatched : AreUnmatched hearing.match (got_in part)

@@ -3,7 +3,7 @@ ghost use Rattle.std.specs.Prelude.{◌≡◌, ℕ, ◌≤◌, ◌++◌, List, l
 ghost use Rattle.sd_link.specs.Steps.{History, whole_record};
 ghost use Rattle.sd_link.specs.Lawful.{IsFrontOf};
 ghost use Rattle.sd_link.specs.Printing.{record_text};
-ghost use Rattle.sd_link.specs.Link.{Moves, IsNow, Sends, Receives, LinkCause, Counts, last_tick, Drains, IsBounded};
+ghost use Rattle.sd_link.specs.Link.{Moves, IsNow, Sends, Receives, LinkCause, Counts, last_tick, Drains, IsReached, IsDrained, IsAtRest};
 
 use sd_outside::{ByteList, NoMemory, Packet};
 
@@ -18,7 +18,7 @@ pub enum LinkError {
 
 /// A way into a world of packets.
 pub trait Link {
-    /// Everything that happened so far, where a world is told.
+    /// Everything that happened so far, where a world is told. Each step was one that may happen: clause `world` of each call.
     ghost told: { Self → Option History };
 
     /// The tick at which the link stands.
@@ -40,7 +40,7 @@ pub trait Link {
         ensures later { clock self.old ≤ clock self.new }
         ensures told { told self.new ≡ told self.old }
         ensures tick { IsNow (told self.new) (clock self.new) }
-        ensures bounded { IfSome (told self.new) IsBounded }
+        ensures world { IfSome (told self.new) IsReached }
         // What was drained is the text of a front of the record.
         ensures front { IfSome (told self.new) (λ h. IsFrontOf (drained self.new) (record_text (whole_record h))) }
         ensures faults { faults self.old ≤ faults self.new }
@@ -50,7 +50,7 @@ pub trait Link {
     /// Sends a packet. After `Failed` it may have gone out, after `NoMemory` it hasn't.
     fn send(&mut self, packet: &Packet) -> Result<(), LinkError>
         ensures told { Moves (told self.old) (told self.new) (Sends packet.now result) }
-        ensures bounded { IfSome (told self.new) IsBounded }
+        ensures world { IfSome (told self.new) IsReached }
         ensures later { clock self.old ≤ clock self.new }
         ensures cause { LinkCause (faults self.old) (faults self.new) result }
         ensures handed { handed self.new ≡ handed self.old }
@@ -59,7 +59,7 @@ pub trait Link {
     /// Waits for a packet, until this tick at most. `None` comes only where it is reached.
     fn recv(&mut self, until: u64) -> Result<Option<Packet>, LinkError>
         ensures told { Moves (told self.old) (told self.new) (Receives until result) }
-        ensures bounded { IfSome (told self.new) IsBounded }
+        ensures world { IfSome (told self.new) IsReached }
         ensures later { clock self.old ≤ clock self.new }
         ensures reached { result ≡ Ok None → until ≤ clock self.new }
         ensures cause { LinkCause (faults self.old) (faults self.new) result }
@@ -71,7 +71,10 @@ pub trait Link {
         ensures told { told self.new ≡ told self.old }
         ensures text { OnOk result (Drains (drained self.old) (drained self.new) text.old text.new) }
         ensures err { OnErr result (drained self.new ≡ drained self.old) }
-        ensures whole { OnOk result (IfSome (told self.new) (λ h. drained self.new ≡ record_text (whole_record h))) }
+        ensures whole { OnOk result (IsDrained (told self.new) (drained self.new)) }
+        // What is drained to its end ends where the server is done with the present tick.
+        ensures rests { OnOk result (IfSome (told self.new) IsAtRest) }
+        ensures world { IfSome (told self.new) IsReached }
         ensures clock { clock self.new ≡ clock self.old }
         ensures faults { faults self.new ≡ faults self.old }
         ensures handed { handed self.new ≡ handed self.old };

@@ -1,15 +1,15 @@
 -- What the client knows while it gets packets until a tick.
-use Rattle.std.proofs.Common.{◌≡◌, ℕ, ◌+◌, ◌≤◌, List, [], ◌∷◌, ◌++◌, Option, Some, None, refl, sym, ◌∙◌, ap, subst, arith, append_assoc}
+use Rattle.std.proofs.Common.{◌≡◌, ℕ, ◌+◌, ◌≤◌, List, [], ◌∷◌, ◌++◌, map, Option, Some, None, refl, sym, ◌∙◌, ap, subst, arith, append_assoc}
 use Rattle.std.specs.List.{flat_map, AllByRecursion}
-use Rattle.std.proofs.lemmas.Grind.{flat_map-append}
 use Rattle.sd_outside.specs.declared.packet.Packet.{Packet}
 use Rattle.sd_config.specs.declared.config.Config.{Config}
 use Rattle.sd_link.specs.World.{World}
-use Rattle.sd_link.specs.Steps.{Step, Get, History, world_of, run}
+use Rattle.sd_link.specs.Steps.{Step, Send, Get, History, world_of, run}
 use Rattle.sd_link.specs.Parts.{sends_in, got_in, ticks_in}
 use Rattle.sd_link.specs.Link.{GoesOn, Moves, TicksBefore, IsNow}
 use Rattle.sd_link.specs.Tries.{Hearing, AreUnmatched, EndsMatched}
-use Rattle.sd_link.proofs.Histories.{sends-append, got-append, before-append, before-bound, tick-run, world-goes, run-append, moves_weaker}
+use Rattle.sd_link.proofs.AtOnce.{at_once-append, at_once-nothing, replied_sends}
+use Rattle.sd_link.proofs.Histories.{got-append, before-append, before-bound, tick-run, world-goes, run-append, moves_weaker}
 use Rattle.sd_rpc_retry.specs.Lasting.{StaysBefore, Lasts}
 use Rattle.sd_rpc_retry.specs.Asking.{IsReplied, IsSilent}
 
@@ -28,23 +28,22 @@ at_end a b xs ys goes =
 
 -- what is sent for the packets of the one and then of the other
 pub replied-append : {S : Type 0} (h : Hearing S) (xs ys : List Step) → IsReplied h xs → IsReplied h ys → IsReplied h (xs ++ ys)
-replied-append h xs ys first second =
-    sends-append xs ys
-    ∙ ap (λ (l : List Packet). l ++ sends_in ys) first
-    ∙ ap (λ (l : List Packet). flat_map h.replies (got_in xs) ++ l) second
-    ∙ sym (flat_map-append h.replies (got_in xs) (got_in ys))
-    ∙ ap (flat_map h.replies) (sym (got-append xs ys))
+replied-append h xs ys first second = at_once-append h.replies xs ys first second
 
 -- nothing is got and nothing is sent
 pub replied-nothing : {S : Type 0} (h : Hearing S) (xs : List Step) → sends_in xs ≡ [] → got_in xs ≡ [] → IsReplied h xs
-replied-nothing h xs silent none = silent ∙ ap (flat_map h.replies) (sym none)
+replied-nothing h xs silent none = at_once-nothing h.replies xs silent none
+
+-- one packet is got, and what is sent for it at once
+pub replied-one : {S : Type 0} (h : Hearing S) (id : ℕ) (packet : Packet) (sent : List Packet) → h.replies packet ≡ sent → IsReplied h (Get id packet ∷ (map Send sent ++ []))
+replied-one h id packet sent is = record { others = Get id packet ∷ []; silent = refl; steps_are = ap (λ (l : List Packet). Get id packet ∷ (map Send l ++ [])) (sym is) }
 
 replies-none : {S : Type 0} (h : Hearing S) (packets : List Packet) → IsSilent h → flat_map h.replies packets ≡ []
 replies-none h [] silent = refl
 replies-none h (packet ∷ packets) silent = ap (λ (l : List Packet). l ++ flat_map h.replies packets) (silent packet) ∙ replies-none h packets silent
 
 pub sends_nothing : {S : Type 0} (h : Hearing S) (rest : List Step) → IsSilent h → IsReplied h rest → sends_in rest ≡ []
-sends_nothing h rest silent replied = replied ∙ replies-none h (got_in rest) silent
+sends_nothing h rest silent replied = replied_sends h.replies rest replied ∙ replies-none h (got_in rest) silent
 
 -- ---- matches
 

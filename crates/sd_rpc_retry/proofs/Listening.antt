@@ -15,7 +15,7 @@ use Rattle.sd_rpc_retry.specs.Asking.{Looks, Hears, IsReplied}
 use Rattle.sd_rpc_retry.specs.declared.asking.Look.TheVariants.{Match, Reply, Other}
 use Rattle.sd_rpc_retry.specs.declared.asking.Heard.{Heard}
 use Rattle.sd_rpc_retry.specs.declared.asking.Heard.TheVariants as heard
-use Rattle.sd_rpc_retry.proofs.Getting.{stays_then, at_end, replied-append, replied-nothing, unmatched-append, unmatched-nothing}
+use Rattle.sd_rpc_retry.proofs.Getting.{stays_then, at_end, replied-append, replied-nothing, replied-one, unmatched-append, unmatched-nothing}
 use Rattle.sd_rpc_retry.proofs.Settling.{settled-then}
 
 -- so many packets were got, and none matched
@@ -26,7 +26,7 @@ pub record Quiet {S : Type 0} (h : Hearing S) (until count : ℕ) (old : History
   pub counted : length (got_in part) ≡ count
 
 pub quiet_none : {S : Type 0} (h : Hearing S) (until : ℕ) (old : History) → Quiet h until 0 old []
-quiet_none h until old = record { ticks = tt; replied = refl; unmatched = tt; counted = refl }
+quiet_none h until old = record { ticks = tt; replied = replied-nothing h [] refl refl; unmatched = tt; counted = refl }
 
 -- one packet more was got, and isn't looked at yet
 pub record Got {S : Type 0} (h : Hearing S) (until count : ℕ) (packet : Packet) (old : History) (part : List Step) : Type 0 where
@@ -99,7 +99,7 @@ module _ {S : Type 0} (h : Hearing S) (until count : ℕ) (packet : Packet) (a :
   pub quiet_other : h.match packet ≡ None → h.replies packet ≡ [] → Quiet h until (count + 1) a xs
   quiet_other unmatched none =
       let last = Get g.id packet ∷ [] in
-      let replied : IsReplied h last = sym (ap (λ (l : List Packet). l ++ []) none) in
+      let replied : IsReplied h last = replied-one h g.id packet [] none in
       record {
         ticks = g.ticks;
         replied = subst (IsReplied h) (sym g.cut) (replied-append h g.before last g.replied replied);
@@ -111,7 +111,7 @@ module _ {S : Type 0} (h : Hearing S) (until count : ℕ) (packet : Packet) (a :
   pub quiet_reply : (b : History) (ys : List Step) (sent : Packet) → GoesOn a b xs → h.match packet ≡ None → h.replies packet ≡ sent ∷ [] → Sends sent (Ok tt) b ys → Quiet h until (count + 1) a (xs ++ ys)
   quiet_reply b ys sent goes unmatched is sends =
       let last = Get g.id packet ∷ Send sent ∷ [] in
-      let replied : IsReplied h last = sym (ap (λ (l : List Packet). l ++ []) is) in
+      let replied : IsReplied h last = replied-one h g.id packet (sent ∷ []) is in
       let whole : xs ++ ys ≡ g.before ++ last = ap (λ (l : List Step). l ++ ys) g.cut ∙ ap (λ (l : List Step). (g.before ++ Get g.id packet ∷ []) ++ l) sends ∙ append_assoc g.before (Get g.id packet ∷ []) (Send sent ∷ []) in
       record {
         ticks = stays_then a b xs ys until goes g.ticks (sent_stays until sent (Ok tt) b ys sends);
@@ -124,7 +124,7 @@ module _ {S : Type 0} (h : Hearing S) (until count : ℕ) (packet : Packet) (a :
   pub hears_found : {T : Type 0} (shows : T → S) (x : T) → count < flood_limit → h.match packet ≡ Some (shows x) → h.replies packet ≡ [] → Hears h shows until (heard.Found x) a xs
   hears_found shows x few is none =
       let last = Get g.id packet ∷ [] in
-      let replied : IsReplied h last = sym (ap (λ (l : List Packet). l ++ []) none) in
+      let replied : IsReplied h last = replied-one h g.id packet [] none in
       let many : length (got_in xs) ≡ count + 1 = ap (λ (l : List Step). length (got_in l)) g.cut ∙ count_one g.before g.id packet [] count refl g.counted in
       record {
         ticks = g.ticks;

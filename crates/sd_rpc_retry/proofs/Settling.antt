@@ -10,6 +10,7 @@ use Rattle.sd_link.specs.Steps.{Step, Tick, Send, Serve, Data, End, Get, Entry, 
 use Rattle.sd_link.specs.Parts.{sends_in}
 use Rattle.sd_link.specs.Lawful.{AllGot, Settles, SendsSettled, EndsWithGet}
 use Rattle.sd_link.specs.Link.{GoesOn, NothingWaits, IsSettledBy}
+use Rattle.sd_link.specs.Tries.{beyond}
 use Rattle.sd_rpc_retry.specs.Asking.{SendsIn}
 use Rattle.sd_link.proofs.Histories.{run-append, record-append, record-goes, world-goes}
 
@@ -79,3 +80,22 @@ sends-try request a xs rest ys cut silent sends settled =
     let entries = whole_record a ++ record_of c (world_of a) xs in
     sends-append c fates (world_of a) (whole_record a) xs ys sends
     (subst (λ (l : List Step). SendsSettled c fates w entries l) (sym cut) (settled, silent-settled c fates (after c w (Send request)) (entries ++ entries_of c w (Send request)) rest silent))
+
+-- what still waits beyond a part is what waits after all of it
+settles-same : (c : Config) (fates : Fates) (w : World) (entries : List Entry) (xs ys : List Step) → Settles c fates (run c w xs) (entries ++ record_of c w xs) ys ≡ Settles c fates w entries (xs ++ ys)
+settles-same c fates w entries xs ys =
+    let first = record_of c w xs in
+    let second = record_of c (run c w xs) ys in
+    ap (λ (l : List Entry). AllGot c fates (run c (run c w xs) ys) l) (append_assoc entries first second ∙ ap (λ (l : List Entry). entries ++ l) (sym (record-append c w xs ys)))
+    ∙ ap (λ (v : World). AllGot c fates v (entries ++ record_of c w (xs ++ ys))) (sym (run-append c w xs ys))
+
+pub settled-beyond : (a b : History) (xs : List Step) → GoesOn a b xs → IsSettledBy b ≡ beyond (IsSettledBy a) xs
+settled-beyond a b xs goes = λ i ys. there ys i
+  where
+    there : (ys : List Step) → IsSettledBy b ys ≡ IsSettledBy a (xs ++ ys)
+    there ys =
+        ap (λ (c : Config). Settles c (fates_of b.events) (world_of b) (whole_record b) ys) goes.config
+        ∙ ap (λ (e : Events). Settles a.config (fates_of e) (world_of b) (whole_record b) ys) goes.events
+        ∙ ap (λ (w : World). Settles a.config (fates_of a.events) w (whole_record b) ys) (world-goes a b xs goes)
+        ∙ ap (λ (l : List Entry). Settles a.config (fates_of a.events) (run a.config (world_of a) xs) l ys) (record-goes a b xs goes)
+        ∙ settles-same a.config (fates_of a.events) (world_of a) (whole_record a) xs ys

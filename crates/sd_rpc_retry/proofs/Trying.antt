@@ -1,5 +1,5 @@
 -- Tries in vain, and the one that ends them.
-use Rattle.std.proofs.Common.{◌≡◌, ℕ, ◌+◌, ◌<◌, List, [], ◌∷◌, ◌++◌, length, Option, refl, sym, ◌∙◌, ap, subst, arith, length-append}
+use Rattle.std.proofs.Common.{◌≡◌, ℕ, ◌+◌, ◌<◌, List, [], ◌∷◌, ◌++◌, length, Option, refl, sym, ◌∙◌, ap, subst, arith, append_assoc, length-append}
 use Rattle.std.specs.List.{flat_map}
 use Rattle.std.proofs.lemmas.Grind.{flat_map-append}
 use Rattle.std.proofs.lemmas.List.{append-nil}
@@ -7,7 +7,7 @@ use Rattle.sd_outside.specs.declared.packet.Packet.{Packet}
 use Rattle.sd_link.specs.Steps.{Step, Send, History}
 use Rattle.sd_link.specs.Parts.{sends_in, got_in, ticks_in}
 use Rattle.sd_link.specs.Link.{GoesOn, Moves, NothingWaits, IsSettledBy}
-use Rattle.sd_link.specs.Tries.{Hearing, AreUnmatched, EndsMatched, flood_limit, IsTries, AreInVain, Asks}
+use Rattle.sd_link.specs.Tries.{Hearing, AreUnmatched, RepliesAtOnce, EndsMatched, flood_limit, IsTries, AllSettle, AreInVain, Asks}
 use Rattle.sd_rpc_retry.specs.declared.asking.Heard.{Heard}
 use Rattle.sd_rpc_retry.specs.declared.asking.Heard.TheVariants.{Found, Nothing, Flood}
 use Rattle.sd_rpc_retry.specs.declared.asking.Asked.TheVariants as asked
@@ -20,23 +20,29 @@ pub record Vain {S : Type 0} (request : Packet) (h : Hearing S) (wait count : �
   pub rests : List (List Step)
   pub is : IsTries request h.replies rests part
   pub counted : length rests ≡ count
-  pub vain : AreInVain wait rests
+  pub vain : AreInVain (IsSettledBy old) request wait rests
   pub unmatched : AreUnmatched h.match (got_in part)
   pub patient : IsSilent h → NothingWaits old → SendsIn old part × IsSettledBy old part
 
 pub vain_none : {S : Type 0} (request : Packet) (h : Hearing S) (wait : ℕ) (old : History) → Vain request h wait 0 old []
-vain_none request h wait old = record { rests = []; is = record { cut = refl; replied = tt }; counted = refl; vain = record { waited = tt; calm = tt }; unmatched = tt; patient = λ silent settled. (tt, settled-none old settled) }
+vain_none request h wait old = record { rests = []; is = record { cut = refl; replied = tt }; counted = refl; vain = record { waited = tt; calm = tt; settles = tt }; unmatched = tt; patient = λ silent settled. (tt, settled-none old settled) }
 
 -- one try more
-tries-push : (request : Packet) (replies : Packet → List Packet) (rests : List (List Step)) (xs rest ys : List Step) → IsTries request replies rests xs → ys ≡ Send request ∷ rest → sends_in rest ≡ flat_map replies (got_in rest)
+tries-push : (request : Packet) (replies : Packet → List Packet) (rests : List (List Step)) (xs rest ys : List Step) → IsTries request replies rests xs → ys ≡ Send request ∷ rest → RepliesAtOnce replies rest
     → IsTries request replies (rests ++ rest ∷ []) (xs ++ ys)
 tries-push request replies rests xs rest ys is cut replied = record {
   cut =
       ap (λ (l : List Step). l ++ ys) is.cut
       ∙ ap (λ (l : List Step). flat_map (λ r. Send request ∷ r) rests ++ l) (cut ∙ sym (append-nil (Send request ∷ rest)))
       ∙ sym (flat_map-append (λ r. Send request ∷ r) rests (rest ∷ []));
-  replied = all-push (λ r. sends_in r ≡ flat_map replies (got_in r)) rests rest is.replied replied;
+  replied = all-push (RepliesAtOnce replies) rests rest is.replied replied;
 }
+
+-- one try more that ends where nothing waits
+settles-push : (settled : List Step → Type 0) (request : Packet) (rests : List (List Step)) (rest : List Step) → AllSettle settled request rests → settled (flat_map (λ r. Send request ∷ r) rests ++ (Send request ∷ rest))
+    → AllSettle settled request (rests ++ rest ∷ [])
+settles-push settled request [] rest all one = (one, tt)
+settles-push settled request (r ∷ rests) rest all one = (all.0, settles-push (λ steps. settled ((Send request ∷ r) ++ steps)) request rests rest all.1 (subst settled (append_assoc (Send request ∷ r) (flat_map (λ r. Send request ∷ r) rests) (Send request ∷ rest)) one))
 
 unmatched_try : {S : Type 0} (h : Hearing S) (request : Packet) (xs rest ys : List Step) → ys ≡ Send request ∷ rest → AreUnmatched h.match (got_in xs) → AreUnmatched h.match (got_in rest) → AreUnmatched h.match (got_in (xs ++ ys))
 unmatched_try h request xs rest ys cut first second = unmatched-append h.match xs ys first (subst (λ (l : List Step). AreUnmatched h.match (got_in l)) (sym cut) second)
@@ -57,13 +63,16 @@ module _ {S T : Type 0} (request : Packet) (h : Hearing S) (shows : T → S) (wa
     vain = record {
       waited = all-push (λ rest. ticks_in rest ≡ wait) v.rests t.rest v.vain.waited t.ending.waited;
       calm = all-push (λ rest. length (got_in rest) < flood_limit) v.rests t.rest v.vain.calm t.ending.calm;
+      settles =
+          settles-push (IsSettledBy a) request v.rests t.rest v.vain.settles
+          (subst (λ (l : List Step). IsSettledBy a (flat_map (λ r. Send request ∷ r) v.rests ++ l)) t.cut (subst (λ (l : List Step). IsSettledBy a (l ++ ys)) v.is.cut (settled-then a b xs ys goes settled)));
     };
     unmatched = unmatched_try h request xs t.rest ys t.cut v.unmatched t.ending.unmatched;
     patient = λ silent was. (sends_more t.rest t.cut t.replied silent was, settled-then a b xs ys goes settled);
   }
 
   -- the try that ends them
-  ends : (tries : ℕ) (E : List Step → Type 0) → count < tries → IsTry request h wait E ys → Asks request h.replies tries wait (xs ++ ys)
+  ends : (tries : ℕ) (E : List Step → Type 0) → count < tries → IsTry request h wait E ys → Asks (IsSettledBy a) request h.replies tries wait (xs ++ ys)
   ends tries E lt t = record {
     before = v.rests;
     last = t.rest;

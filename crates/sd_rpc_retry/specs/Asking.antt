@@ -1,13 +1,12 @@
 -- What one try of a request shows, and all of them.
 use Rattle.std.specs.Prelude.{◌≡◌, ℕ, ◌<◌, ◌≤◌, List, [], ◌∷◌, length, Some, None}
-use Rattle.std.specs.List.{flat_map}
 use Rattle.sd_outside.specs.declared.packet.Packet.{Packet}
 use Rattle.sd_link.specs.Steps.{Step, Send, History, world_of, whole_record, run}
 use Rattle.sd_config.specs.Events.{fates_of}
-use Rattle.sd_link.specs.Parts.{sends_in, got_in, ticks_in}
+use Rattle.sd_link.specs.Parts.{got_in, ticks_in}
 use Rattle.sd_link.specs.Lawful.{SendsSettled}
 use Rattle.sd_link.specs.Link.{NothingWaits, IsSettledBy}
-use Rattle.sd_link.specs.Tries.{Hearing, AreUnmatched, EndsMatched, Answered, Flooded, TimedOut, flood_limit}
+use Rattle.sd_link.specs.Tries.{Hearing, AreUnmatched, RepliesAtOnce, EndsMatched, Answered, Flooded, TimedOut, flood_limit}
 use Rattle.sd_rpc_retry.specs.Lasting.{StaysBefore}
 use Rattle.sd_rpc_retry.specs.declared.asking.Look.{Look}
 use Rattle.sd_rpc_retry.specs.declared.asking.Look.TheVariants.{Match, Reply, Other}
@@ -71,9 +70,9 @@ IsAnswer h shows asked.Fault = Unit {0}
 
 -- ---- the steps after a send
 
--- the client sends what it sends for the packets that it gets, and nothing else
+-- the client sends at once what it sends for the packets that it gets, and nothing else
 abbrev pub IsReplied : {S : Type 0} → Hearing S → List Step → Type 0
-IsReplied h rest = sends_in rest ≡ flat_map h.replies (got_in rest)
+IsReplied h rest = RepliesAtOnce h.replies rest
 
 abbrev pub Found : {S T : Type 0} → Hearing S → (T → S) → ℕ → Heard T → History → List Step → Type 0
 Found h shows until (heard.Found x) old part = IsReplied h part × EndsMatched h.match (shows x) part × (length (got_in part) ≤ flood_limit)
@@ -125,11 +124,11 @@ abbrev pub SendsIn : History → List Step → Type 0
 SendsIn old part = SendsSettled old.config (fates_of old.events) (world_of old) (whole_record old) part
 
 -- what came of a request
-abbrev pub Came : {S T : Type 0} → Packet → Hearing S → (T → S) → ℕ → ℕ → Asked T → List Step → Type 0
-Came request h shows tries wait (asked.Answer x) part = Answered request h tries wait (shows x) part
-Came request h shows tries wait asked.Timeout part = TimedOut request h tries wait part
-Came request h shows tries wait asked.Flood part = Flooded request h tries wait part
-Came request h shows tries wait asked.Fault part = Unit {0}
+abbrev pub Came : {S T : Type 0} → Packet → Hearing S → (T → S) → ℕ → ℕ → Asked T → History → List Step → Type 0
+Came request h shows tries wait (asked.Answer x) old part = Answered (IsSettledBy old) request h tries wait (shows x) part
+Came request h shows tries wait asked.Timeout old part = TimedOut (IsSettledBy old) request h tries wait part
+Came request h shows tries wait asked.Flood old part = Flooded (IsSettledBy old) request h tries wait part
+Came request h shows tries wait asked.Fault old part = Unit {0}
 
 -- how the asking ended, where nothing waited at its start
 abbrev pub EndsSettled : {T : Type 0} → Asked T → History → List Step → Type 0
@@ -139,5 +138,5 @@ EndsSettled asked.Flood old part = SendsIn old part
 EndsSettled asked.Fault old part = Unit {0}
 
 pub record IsAsked {S T : Type 0} (request : Packet) (h : Hearing S) (shows : T → S) (tries wait : ℕ) (what : Asked T) (old : History) (part : List Step) : Type 0 where
-  pub came : Came request h shows tries wait what part
+  pub came : Came request h shows tries wait what old part
   pub ended : IsSilent h → NothingWaits old → EndsSettled what old part

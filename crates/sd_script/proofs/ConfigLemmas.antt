@@ -9,7 +9,7 @@ use Rattle.sd_config.specs.declared.config.BootFile.{BootFile}
 use Rattle.sd_config.specs.declared.config.RootItem.{RootItem}
 use Rattle.sd_config.specs.declared.config.SwapLine.{SwapLine}
 use Rattle.sd_config.specs.declared.config.Config.{Config}
-use Rattle.sd_link.specs.Texts.{Text}
+use Rattle.sd_text.specs.Texts.{Text}
 use Rattle.sd_config.specs.Config.{IsName, IsPath, IsComponent, is_visible, AreBootFiles, IsBootFile, AreRootItems, IsRootItem, AreApart, IsSwap, item_path, item_size}
 use Rattle.sd_script.specs.Lines.{MayAddBootFile, MayAddItem}
 use Rattle.sd_script.specs.Grammar.{kernel_or_usual}

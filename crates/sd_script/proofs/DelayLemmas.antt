@@ -7,10 +7,9 @@ use Rattle.std.specs.Fmt.{decimal}
 use Rattle.std.specs.Int.{IsInRange}
 use Rattle.std.proofs.lemmas.Fmt.{decimal_is_IsNumeral}
 use Rattle.std.proofs.lemmas.Str.Parse.{digit_at}
-use Rattle.sd_link.specs.Texts.{Text}
-use Rattle.sd_script.specs.Texts.{IsNumber}
+use Rattle.sd_text.specs.Texts.{Text, IsNumber}
 use Rattle.sd_script.specs.Lines.{IsDelays}
-use Rattle.sd_script.proofs.Exits.{firsts, others}
+use Rattle.sd_text.proofs.Exits.{firsts, others}
 
 -- the delays so far are those of the fields before the ones that are left
 pub record IsDelaying (life : ℕ) (all parts : List Text) (delays : List ℕ) : Type 0 where

@@ -1,10 +1,10 @@
 -- Judgements of lines under one rule and another.
 use Rattle.std.proofs.Common.{◌≡◌, List, Result, Ok, Err, inl, inr, sym, ◌∙◌}
-use Rattle.sd_script.specs.declared.error.LineError.{LineError}
-use Rattle.sd_script.specs.declared.error.LineError.TheVariants.{Outside, NoMemory}
+use Rattle.sd_text.specs.declared.error.LineError.{LineError}
+use Rattle.sd_text.specs.declared.error.LineError.TheVariants.{Outside, NoMemory}
 use Rattle.sd_script.specs.declared.draft.Draft.{Draft}
 use Rattle.sd_script.specs.declared.draft.Section.TheVariants as sections
-use Rattle.sd_link.specs.Texts.{Text}
+use Rattle.sd_text.specs.Texts.{Text}
 use Rattle.sd_script.specs.Judging.{Judges}
 use Rattle.sd_script.specs.Lines.{MayBeCommand}
 

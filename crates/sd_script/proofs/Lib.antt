@@ -1,18 +1,7 @@
-pub mod RunLemmas
-pub mod WriteLemmas
-pub mod Exits
-pub mod NumberLemmas
-pub mod HexCase
-pub mod CutLemmas
-pub mod PlaceLemmas
-pub mod ItemLemmas
 pub mod PathLemmas
 pub mod JudgeLemmas
 pub mod ScriptLemmas
-pub mod MacLemmas
 pub mod DelayLemmas
-pub mod PacketLemmas
-pub mod ReadBack
 pub mod OneConfigLine
 pub mod OneLine
 pub mod OneScript
@@ -21,3 +10,5 @@ pub mod ParamsLemmas
 pub mod RestLemmas
 pub mod RuleLemmas
 pub mod IdLemmas
+pub mod MachineLemmas
+pub mod RecordLemmas

@@ -3,16 +3,15 @@ use Rattle.std.proofs.Common.{◌≡◌, ℕ, ◌+◌, List, ◌++◌, ap, sym, 
 use Rattle.sd_bootparams.specs.declared.draft.Draft as file
 use Rattle.sd_bootparams.specs.File.{adding}
 use Rattle.sd_bootparams.specs.LineByLine.{fed, line_parts, after_line}
-use Rattle.sd_link.specs.Texts.{Text}
+use Rattle.sd_text.specs.Texts.{Text, IsIp}
 use Rattle.sd_config.specs.Config.{boot_file_limit}
 use Rattle.sd_script.specs.declared.draft.Draft.{Draft}
-use Rattle.sd_script.specs.Runs.{IsRunsWithin}
-use Rattle.sd_script.specs.Texts.{IsIp}
+use Rattle.sd_text.specs.Runs.{IsRunsWithin}
 use Rattle.sd_script.specs.Lines.{with_params, ArchLine, HostLine, ParamsLine, IsRest, spaced, TftpLine, RootLine, FileLine, LinkLine, KernelLine, SwapFileLine}
-use Rattle.sd_script.proofs.Exits.{firsts, others}
-use Rattle.sd_script.proofs.NumberLemmas.{same_number}
-use Rattle.sd_script.proofs.ItemLemmas.{one_runs}
-use Rattle.sd_script.proofs.MacLemmas.{one_ip}
+use Rattle.sd_text.proofs.Exits.{firsts, others}
+use Rattle.sd_text.proofs.NumberLemmas.{same_number}
+use Rattle.sd_text.proofs.ItemLemmas.{one_runs}
+use Rattle.sd_text.proofs.MacLemmas.{one_ip}
 
 same_runs : (most : ℕ) {f g : Text} (a b : List ℕ) → f ≡ g → IsRunsWithin most f a → IsRunsWithin most g b → a ≡ b
 same_runs most {f} {g} a b e x y = let here : IsRunsWithin most g a = subst (λ (t : Text). IsRunsWithin most t a) e x in one_runs g a b here.is y.is

@@ -8,13 +8,13 @@ use Rattle.sd_script.specs.declared.draft.Word.{Word}
 use Rattle.sd_script.specs.declared.draft.Word.TheVariants as words
 use Rattle.sd_config.specs.declared.command.Command.{Command}
 use Rattle.sd_config.specs.declared.command.Command.TheVariants as commands
-use Rattle.sd_link.specs.Texts.{Text}
-use Rattle.sd_script.specs.Texts.{fields, IsNumber, IsIp}
+use Rattle.sd_text.specs.Texts.{Text, fields, IsNumber, IsIp}
 use Rattle.sd_script.specs.Lines.{IsMachine, LifeLine, TriesLine, WaitLine, PagesLine, ServerLine, ClientLine, IsDelays, FateLine, AddsCommand, WaitCommandLine}
 use Rattle.sd_script.specs.Grammar.{spelling, WordLine, IsSkipped, IsWordLine, IsLine}
-use Rattle.sd_script.proofs.Exits.{firsts, others}
-use Rattle.sd_script.proofs.NumberLemmas.{one_number, same_number}
-use Rattle.sd_script.proofs.MacLemmas.{one_ip, one_machine}
+use Rattle.sd_text.proofs.Exits.{firsts, others}
+use Rattle.sd_text.proofs.NumberLemmas.{one_number, same_number}
+use Rattle.sd_script.proofs.MachineLemmas.{one_machine}
+use Rattle.sd_text.proofs.MacLemmas.{one_ip}
 use Rattle.sd_script.proofs.DelayLemmas.{zip-at, no_number}
 use Rattle.sd_script.proofs.JudgeLemmas.{not_in_heading}
 use Rattle.sd_script.proofs.OneConfigLine.{arch_one, host_one, params_one, tftp_one, root_one, file_one, link_one, kernel_one, swap_one}

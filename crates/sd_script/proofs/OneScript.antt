@@ -4,11 +4,11 @@ use Rattle.std.specs.List.{concat, onto_first}
 use Rattle.std.proofs.lemmas.Bool.{cases_Bool, cases_order}
 use Rattle.sd_script.specs.declared.draft.Draft.{Draft}
 use Rattle.sd_script.specs.declared.script.Script.{Script}
-use Rattle.sd_link.specs.Texts.{Text}
+use Rattle.sd_text.specs.Texts.{Text}
 use Rattle.sd_script.specs.Limits.{input_limit}
 use Rattle.sd_script.specs.Grammar.{lines, without_feed, IsLine, Leads, blank, script_of, IsWhole, Says, IsScript, IsRefusedLine, EndsEarly, IsFirstOutside}
 use Rattle.sd_script.proofs.OneLine.{line_one}
-use Rattle.sd_script.proofs.Exits.{firsts, others}
+use Rattle.sd_text.proofs.Exits.{firsts, others}
 
 onto_concat : (b : ℕ) (parts : List Text) → concat (onto_first b parts) ≡ b ∷ concat parts
 onto_concat b [] = refl

@@ -11,10 +11,9 @@ use Rattle.sd_bootparams.specs.declared.book.Host.{Host}
 use Rattle.sd_bootparams.specs.declared.draft.Draft as file
 use Rattle.sd_bootparams.specs.LineByLine.{blank, fed, file_of, is_one_line, AreLines, StandsAt, Says, line_parts, after_line}
 use Rattle.sd_bootparams.proofs.Standing.{begins_blank, next_line_stands, standing_is_file}
-use Rattle.sd_link.specs.Texts.{Text}
+use Rattle.sd_text.specs.Texts.{Text, cut}
 use Rattle.sd_config.specs.declared.config.Config.{Config}
 use Rattle.sd_config.specs.Config.{IsHost, AreHosts, AreParams}
-use Rattle.sd_script.specs.Texts.{cut}
 use Rattle.sd_script.specs.Lines.{MayAddHost, IsRest, spaced}
 
 -- ---- machines

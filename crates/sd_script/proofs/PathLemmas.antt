@@ -3,7 +3,7 @@ use Rattle.std.proofs.Common.{◌≡◌, ◌+◌, ◌<◌, List, ◌∷◌, leng
 use Rattle.std.proofs.lemmas.List.{drop_more, get_or_at}
 use Rattle.std.specs.List.{All}
 use Rattle.std.proofs.lemmas.List.Elements.{All-cons, All-head, All-tail}
-use Rattle.sd_link.specs.Texts.{Text}
+use Rattle.sd_text.specs.Texts.{Text}
 use Rattle.sd_config.specs.Config.{IsComponent, IsDirectoryOf}
 
 pub directory_from : (p q : Text) → length p < length q → take (length p) q ≡ p → get_or q (length p) 0 ≡ 47 → IsDirectoryOf p q

@@ -1,7 +1,7 @@
 -- The rest of a line, field by field.
 use Rattle.std.proofs.Common.{◌≡◌, List, [], ◌∷◌, ◌++◌, ap, sym, ◌∙◌, append_assoc}
 use Rattle.std.proofs.lemmas.List.{append-nil}
-use Rattle.sd_link.specs.Texts.{Text}
+use Rattle.sd_text.specs.Texts.{Text}
 use Rattle.sd_script.specs.Lines.{IsRest, spaced}
 
 -- the text so far, and the fields that are left

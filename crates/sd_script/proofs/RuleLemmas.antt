@@ -9,7 +9,7 @@ use Rattle.sd_config.specs.declared.config.RootItem.{RootItem}
 use Rattle.sd_config.specs.declared.config.RootItem.TheVariants as items
 use Rattle.sd_config.specs.declared.config.SwapLine.{SwapLine}
 use Rattle.sd_config.specs.declared.events.Fate.{Fate}
-use Rattle.sd_link.specs.Texts.{Text}
+use Rattle.sd_text.specs.Texts.{Text, IsNumber}
 use Rattle.sd_config.specs.Config as rules
 use Rattle.sd_config.specs.Config.{IsConfig, IsWithin, bytes_of}
 use Rattle.sd_config.specs.Events.{IsFate}
@@ -22,7 +22,6 @@ use Rattle.sd_script.specs.declared.draft.Draft.{Draft}
 use Rattle.sd_script.specs.declared.draft.Word.{Word}
 use Rattle.sd_script.specs.declared.draft.Word.TheVariants as words
 use Rattle.sd_config.specs.Commands.{command_limit}
-use Rattle.sd_script.specs.Texts.{IsNumber}
 use Rattle.sd_script.specs.Lines.{IsMachine, LifeLine, TriesLine, WaitLine, PagesLine, ServerLine, ClientLine, ArchLine, HostLine, ParamsLine, TftpLine, RootLine, FileLine, LinkLine, KernelLine, SwapFileLine, HasRoom, MayAddHost, with_host, with_params, MayAddBootFile, MayAddItem, MayBeEvent, MayBeCommand, IsDelays, FateLine, AddsCommand, Differ, with_config, with_boot_file, with_item, with_fate, with_command}
 use Rattle.sd_script.specs.Grammar.{spelling, WordLine, IsLine, Leads, without_feed, blank, kernel_or_usual, script_of, IsScript}
 use Rattle.sd_script.specs.Rules.{KeepsRules}

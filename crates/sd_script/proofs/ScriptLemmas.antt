@@ -4,7 +4,7 @@ use mathlib.Core.List.{append-nil}
 use Rattle.std.specs.List.{prefix_len, concat}
 use Rattle.std.proofs.lemmas.Bool.{cases_Bool}
 use Rattle.sd_script.specs.declared.draft.Draft.{Draft}
-use Rattle.sd_link.specs.Texts.{Text}
+use Rattle.sd_text.specs.Texts.{Text}
 use Rattle.sd_script.specs.Limits.{input_limit}
 use Rattle.sd_script.specs.Grammar.{lines, without_feed, IsLine, Leads, blank, script_of, IsWhole, Says, IsScript, IsFirstOutside}
 

@@ -3,8 +3,8 @@ use Rattle.std.specs.Prelude.{◌∷◌, ◌++◌, [], codes}
 use Rattle.std.specs.Fmt.{decimal}
 use Rattle.sd_config.specs.declared.stage.Stage.{Stage}
 use Rattle.sd_config.specs.declared.stage.Stage.TheVariants.{Rarp, Tftp, Whoami, Getfile, Getport, Mnt, Wait}
-use Rattle.sd_link.specs.Texts.{Text, ip_text}
-use Rattle.sd_link.specs.Runs.{runs_text}
+use Rattle.sd_text.specs.Texts.{Text, ip_text}
+use Rattle.sd_text.specs.Runs.{runs_text}
 use Rattle.sd_config.specs.declared.told.Told.{Told}
 use Rattle.sd_config.specs.declared.told.Told.TheVariants.{AddrOk, AddrTimeout, AddrFlood, AddrLinkFault, BootUnbuilt, BootTimeout, BootFlood, BootDenied, BootRefused, BootNoPort, BootTooLarge, BootLinkFault, WaitOk, WaitFlood, WaitLinkFault}
 

@@ -12,8 +12,7 @@ use Rattle.sd_script.specs.declared.draft.Draft.{Draft}
 use Rattle.sd_script.specs.declared.script.Script.{Script}
 use Rattle.sd_script.specs.declared.error.ScriptError.{ScriptError}
 use Rattle.sd_script.specs.declared.error.ScriptError.TheVariants as errors
-use Rattle.sd_link.specs.Texts.{Text}
-use Rattle.sd_script.specs.Texts.{fields}
+use Rattle.sd_text.specs.Texts.{Text, fields}
 use Rattle.sd_script.specs.Limits.{input_limit}
 use Rattle.sd_script.specs.Lines.{LifeLine, TriesLine, WaitLine, PagesLine, ServerLine, ClientLine, ArchLine, HostLine, ParamsLine, TftpLine, RootLine, FileLine, LinkLine, KernelLine, SwapFileLine, FateLine, AddrLine, BootLine, WaitCommandLine}
 

@@ -1,30 +1,13 @@
 -- What the functions that read the parts of a line, and whole lines, answer.
 use Rattle.std.specs.Prelude.{◌≡◌, ℕ, ◌-◌, ◌<◌, ◌≤◌, ◌+◌, ◌++◌, length, ◌⊎◌, List, [], ◌∷◌, Result, Ok, Err}
-use denote.Ref.{Bor}
-use Rattle.sd_script.specs.declared.error.LineError.{LineError}
+use Rattle.sd_text.specs.declared.error.LineError.{LineError}
 use Rattle.sd_script.specs.declared.draft.Draft.{Draft}
-use Rattle.sd_link.specs.Texts.{Text}
-use Rattle.sd_script.specs.Texts.{IsNumber}
+use Rattle.sd_text.specs.Texts.{Text, IsNumber}
 use Rattle.sd_config.specs.declared.config.Machine.{Machine}
 use Rattle.sd_script.specs.Lines.{IsMachine, IsRest}
-use Rattle.sd_script.specs.Reading.{OnOutside}
+use Rattle.sd_text.specs.Answers.{OnOutside}
 use Rattle.sd_script.specs.declared.error.ScriptError.{ScriptError}
 use Rattle.sd_script.specs.Grammar.{lines, Says, IsScriptError}
-
--- A fact where it holds, and `Outside` only where it doesn't.
-abbrev pub Tells : Type 0 → Result Unit LineError → Type 0
-Tells P (Ok done) = P
-Tells P (Err e) = OnOutside e (P → ⊥)
-
--- The first part is the text of a value under R, and the others are left; or no such part is the first.
-abbrev pub Takes : {X : Type 0} → (Text → X → Type 0) → List Text → List Text → Result X LineError → Type 0
-Takes R old new (Ok x) = (text : Text) × (old ≡ text ∷ new) × R text x
-Takes {X} R old new (Err e) = OnOutside e ((text : Text) (rest : List Text) (x : X) → old ≡ text ∷ rest → R text x → ⊥)
-
--- The one part that is left is the text of a value under R.
-abbrev pub TakesLast : {X : Type 0} → (Text → X → Type 0) → List Text → Result X LineError → Type 0
-TakesLast R old (Ok x) = (text : Text) × (old ≡ text ∷ []) × R text x
-TakesLast {X} R old (Err e) = OnOutside e ((text : Text) (x : X) → old ≡ text ∷ [] → R text x → ⊥)
 
 -- A line under the rule R leads from one draft to another, or to none.
 abbrev pub Judges : (Draft → List Text → Draft → Type 0) → Draft → List Text → Draft → Result Unit LineError → Type 0
@@ -35,11 +18,6 @@ Judges R old args new (Err e) = OnOutside e ((other : Draft) → R old args othe
 abbrev pub TakesRest : List Text → Result (List ℕ) LineError → Type 0
 TakesRest old (Ok text) = IsRest old text
 TakesRest old (Err e) = OnOutside e (old ≡ [])
-
--- The first part has the property, and is what the slice shows.
-abbrev pub TakesText : (Text → Type 0) → List Text → List Text → Result (Bor (List ℕ)) LineError → Type 0
-TakesText P old new (Ok slice) = (old ≡ slice.now ∷ new) × P slice.now
-TakesText P old new (Err e) = OnOutside e ((text : Text) (rest : List Text) → old ≡ text ∷ rest → P text → ⊥)
 
 -- The first three parts are those of a machine.
 abbrev pub TakesMachine : List Text → List Text → Result Machine LineError → Type 0

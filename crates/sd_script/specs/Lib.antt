@@ -1,15 +1,8 @@
 pub mod Limits
-pub mod Texts
-pub mod Runs
-pub mod Packets
 pub mod Lines
 pub mod Ids
 pub mod Grammar
 pub mod Rules
-pub mod Reading
-pub mod Writing
 pub mod Judging
-pub mod RunReading
 pub mod PacketWriting
-pub mod Values
 pub mod Answers

@@ -16,10 +16,9 @@ use Rattle.sd_config.specs.declared.command.Command.TheVariants as commands
 use Rattle.sd_script.specs.declared.draft.Section.{Section}
 use Rattle.sd_script.specs.declared.draft.Section.TheVariants as sections
 use Rattle.sd_script.specs.declared.draft.Draft.{Draft}
-use Rattle.sd_link.specs.Texts.{Text}
+use Rattle.sd_text.specs.Texts.{Text, IsNumber, IsMac, IsIp}
 use Rattle.sd_config.specs.Config.{IsName, boot_file_limit, IsPath, IsTarget, AreApart, item_path, item_size}
-use Rattle.sd_script.specs.Texts.{IsNumber, IsMac, IsIp}
-use Rattle.sd_script.specs.Runs.{IsRunsWithin}
+use Rattle.sd_text.specs.Runs.{IsRunsWithin}
 use Rattle.sd_script.specs.Limits.{all_files_limit, host_limit, params_limit, fate_limit}
 use Rattle.sd_config.specs.Commands.{command_limit}
 

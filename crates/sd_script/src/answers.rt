@@ -4,10 +4,9 @@ ghost use Rattle.std.specs.Prelude.{◌≡◌, ◌++◌, codes, OnOk, OnErr};
 ghost use Rattle.std.specs.Fmt.{decimal};
 ghost use Rattle.sd_script.specs.Answers.{answer_text, answer_line, stage_text};
 
-use crate::runs::write_runs;
-use crate::writing::{ip_list, push_number};
 use sd_config::{Stage, Told};
 use sd_outside::{ByteList, NoMemory};
+use sd_text::{ip_list, push_number, write_runs};
 use std::alloc::Global;
 
 /// The word for a stage.

@@ -17,29 +17,22 @@ mod fields;
 mod laws;
 mod limits;
 mod lines;
-mod packets;
-mod parts;
+mod names;
 mod paths;
 mod read;
 mod record;
 mod runs;
 mod script;
-mod values;
-mod writing;
 
 pub use answers::write_answer;
-pub use error::{LineError, PacketLineError, RunsError, ScriptError};
-pub use fields::{only_number, read_addr, read_ip, take_addr, take_end, take_number, take_runs};
-pub use laws::{one_reading, packet_lines_are_read_again, runs_are_read_again};
-pub use packets::{read_packet_line, write_packet_line};
-pub use parts::Parts;
+pub use error::{RunsError, ScriptError};
+pub use laws::one_reading;
 pub use read::{body_of, read_script, split_line};
 pub use record::{write_got, write_sent, write_served};
-pub use runs::{read_runs, read_runs_within, write_runs};
+pub use runs::read_runs;
 pub use script::Script;
 pub use sd_config::{Command, CommandList, Told};
-pub use values::{read_mac, read_number, same_text};
-pub use writing::{addr_list, ip_list, push_number};
+pub use sd_text::{PacketLineError, push_number, read_packet_line, write_packet_line, write_runs};
 
 #[cfg(test)]
 mod tests;

@@ -1,7 +1,7 @@
 //! One function for each kind of line, and the choice by a line's first word.
 
 ghost use Rattle.std.specs.Prelude.{◌≡◌, []};
-ghost use Rattle.sd_script.specs.Reading.{Finds};
+ghost use Rattle.sd_text.specs.Answers.{Finds};
 ghost use Rattle.sd_script.specs.Judging.{Judges};
 ghost use Rattle.sd_script.specs.Grammar.{spelling, WordLine, IsLine};
 
@@ -13,14 +13,13 @@ mod heading;
 mod params;
 
 use crate::draft::{Draft, Section, Word};
-use crate::error::LineError;
-use crate::parts::Parts;
 use commands::{addr_line, boot_line, wait_command_line};
 use config::{arch_line, host_line, kernel_line, root_line, swap_line};
 use events::fate_line;
 use files::{file_line, link_line, tftp_line};
 use heading::{client_line, life_line, pages_line, server_line, tries_line, wait_line};
 use params::params_line;
+use sd_text::{LineError, Parts};
 use std::alloc::Global;
 
 /// The word that a text spells.

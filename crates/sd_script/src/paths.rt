@@ -4,8 +4,7 @@ ghost use Rattle.std.specs.Prelude.{◌≡◌, ℕ, List, ◌∷◌, IsTrue, ◌
 ghost use Rattle.std.specs.List.{All, AllPass};
 ghost use Rattle.sd_config.specs.Config.{IsPath, IsTarget, IsComponent, IsDirectoryOf, AreApart, is_visible};
 
-use crate::parts::Parts;
-use crate::values::same_text;
+use sd_text::{Parts, same_text};
 
 /// Whether a text may stand between two slashes.
 fn is_component(text: &[u8]) -> bool

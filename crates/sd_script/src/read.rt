@@ -6,14 +6,14 @@ ghost use Rattle.sd_script.specs.Rules.{KeepsRules};
 ghost use Rattle.sd_script.specs.Grammar.{blank, no_machine, kernel_or_usual, script_of, IsWhole, IsScript, IsScriptError, lines, without_feed};
 
 use crate::draft::{Draft, Section};
-use crate::error::{LineError, ScriptError};
+use crate::error::ScriptError;
 use crate::fates::FateBook;
 use crate::limits::INPUT_LIMIT;
 use crate::lines::read_line;
-use crate::parts::place_of;
 use crate::script::Script;
 use sd_config::{CommandList, Config, Events, Machine};
 use sd_outside::{ByteList, ListOf, Mac, NoMemory};
+use sd_text::{LineError, place_of};
 use std::alloc::Global;
 
 fn empty_machine(alloc: Global) -> Machine

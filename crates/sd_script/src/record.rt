@@ -5,11 +5,10 @@ ghost use Rattle.std.specs.Fmt.{decimal};
 ghost use Rattle.sd_link.specs.Printing.{entry_text};
 ghost use Rattle.sd_link.specs.Steps as steps;
 ghost use Rattle.sd_script.specs.PacketWriting.{head_of_sent};
-ghost use Rattle.sd_script.specs.Writing.{AppendsFront};
+ghost use Rattle.sd_text.specs.Writing.{AppendsFront};
 
-use crate::packets::write_packet_line;
-use crate::writing::push_number;
 use sd_outside::{ByteList, NoMemory, Packet};
+use sd_text::{push_number, write_packet_line};
 use std::alloc::Global;
 
 /// `WORD TICK ID`

@@ -10,8 +10,8 @@ use Rattle.sd_link.specs.World.{World, Sender}
 use Rattle.sd_services.specs.Sessions.{with_session, without_session, sent_again, block_packet}
 use Rattle.sd_services.specs.Reply.{reply}
 use Rattle.sd_link.specs.Steps.{Step, Tick, Send, Serve, Data, End, Get, Entry, goes_to_server, goes_to_client, whole_record}
-use Rattle.sd_link.specs.Lawful.{served_at, got_at, due_to_server, due_to_client, AllGot, IsFrontOf}
-use Rattle.sd_link.specs.Link.{last_tick, IsBounded, NothingWaits}
+use Rattle.sd_link.specs.Lawful.{served_at, got_at, due_to_server, due_to_client, AllGot, ServerRests, IsFrontOf}
+use Rattle.sd_link.specs.Link.{last_tick, IsReached, NothingWaits, IsAtRest}
 use Rattle.sd_link.specs.Printing.{record_text}
 use Rattle.sd_segment.specs.declared.flown.Origin.TheVariants as origin
 use Rattle.sd_segment.specs.declared.flown.Flown.{Flown}
@@ -35,8 +35,9 @@ use Rattle.sd_segment.proofs.Turning.{turn_sent, turn_served, turn_again, turn_e
 pub timely_of : (s : SegmentView) → IsSound s → IsTimely s.config.life (fates_of s.events)
 timely_of s i = timely s.config.life s.events.fates i.config.life.0 i.events.fates
 
-pub bounded_of : (s : SegmentView) → IsSound s → IsBounded (history_of s)
+pub bounded_of : (s : SegmentView) → IsSound s → IsReached (history_of s)
 bounded_of s i = record {
+  lawful = i.keeps.allowed;
   tick = omega (arith, i.tick, ap (λ (w : World). w.tick) i.keeps.world);
   ids = omega (arith, i.ids, ap (λ (w : World). length w.flight) i.keeps.world, length-map s.flight flying_of);
 }
@@ -52,6 +53,18 @@ settled_of s i none =
     sym (append-nil (got_at s.tick entries)) ∙ ap (λ (l : List ℕ). got_at s.tick entries ++ l) (sym none) ∙ i.turns.client in
     subst (λ (w : World). AllGot s.config fates w (whole_record h)) (sym i.keeps.world)
     (subst (λ (l : List Entry). AllGot s.config fates there l) (sym i.keeps.entries) all)
+
+-- where nothing is still to be done by the server, it is done with the tick
+pub rests_of : (s : SegmentView) → IsSound s → Rests s → IsAtRest (history_of s)
+rests_of s i ready =
+    let fates = fates_of s.events in
+    let h = history_of s in
+    let entries = entries_kept s.flight s.kept in
+    let there = world_at s.server s.flight s.tick in
+    let all : ServerRests s.config fates there entries =
+    (sym (append-nil (served_at s.tick entries)) ∙ ap (λ (l : List ℕ). served_at s.tick entries ++ l) (sym ready.served) ∙ i.turns.server, ready.sessions) in
+    subst (λ (w : World). ServerRests s.config fates w (whole_record h)) (sym i.keeps.world)
+    (subst (λ (l : List Entry). ServerRests s.config fates there l) (sym i.keeps.entries) all)
 
 pub drained_front : (s : SegmentView) → IsSound s → IsFrontOf (text_drained s) (record_text (whole_record (history_of s)))
 drained_front s i = (record_text (entries_kept s.flight (drop s.drained s.kept)), sym (all_lines s.flight s.kept s.drained) ∙ ap record_text (sym i.keeps.entries))
@@ -140,7 +153,6 @@ passes_sent s packet fate i j =
       drained = text-push s (f ∷ []) (record { tick = s.tick; what = Sent (length s.flight) }) i;
       faults = refl;
       broken = refl;
-      lawful = j.keeps.allowed;
       bounded = bounded_of (sent_next s packet fate) j;
       stood = ap (λ (w : World). w.tick) i.keeps.world;
     }
@@ -199,7 +211,6 @@ passes_served s id fate a i j =
       drained = text-push s more (record { tick = s.tick; what = Served id (length s.flight) (length packets) }) i;
       faults = refl;
       broken = refl;
-      lawful = j.keeps.allowed;
       bounded = bounded_of (served_next s id fate a) j;
       stood = ap (λ (w : World). w.tick) i.keeps.world;
     }
@@ -241,7 +252,6 @@ passes_again s session fate i j =
       drained = text-push s (f ∷ []) (record { tick = s.tick; what = Again session.number (length s.flight) }) i;
       faults = refl;
       broken = refl;
-      lawful = j.keeps.allowed;
       bounded = bounded_of (again_next s session fate) j;
       stood = ap (λ (w : World). w.tick) i.keeps.world;
     }
@@ -280,7 +290,6 @@ passes_ended s number i j =
       drained = ap (λ (l : List Flown). record_text (entries_kept l (take s.drained (s.kept ++ entry ∷ [])))) (sym none) ∙ text-push s [] entry i;
       faults = refl;
       broken = refl;
-      lawful = j.keeps.allowed;
       bounded = bounded_of (ended_next s number) j;
       stood = ap (λ (w : World). w.tick) i.keeps.world;
     }
@@ -322,7 +331,6 @@ passes_got s id handed f i at j =
       drained = ap (λ (l : List Flown). record_text (entries_kept l (take s.drained (s.kept ++ entry ∷ [])))) (sym none) ∙ text-push s [] entry i;
       faults = refl;
       broken = refl;
-      lawful = j.keeps.allowed;
       bounded = bounded_of (got_next s id handed) j;
       stood = ap (λ (w : World). w.tick) i.keeps.world;
     }
@@ -359,7 +367,6 @@ passes_tick s to_server to_client i j = record {
   drained = refl;
   faults = refl;
   broken = refl;
-  lawful = j.keeps.allowed;
   bounded = bounded_of (tick_next s to_server to_client) j;
   stood = ap (λ (w : World). w.tick) i.keeps.world;
 }

@@ -8,8 +8,8 @@ use Rattle.sd_link.specs.declared.link.LinkError.{LinkError}
 use Rattle.sd_link.specs.World.{World}
 use Rattle.sd_link.specs.Steps.{Step, Tick, Send, Serve, Data, End, Get, after, run, world_of}
 use Rattle.sd_link.specs.Parts.{sends_in, got_in}
-use Rattle.sd_link.specs.Link.{GoesOn, Moves, TicksBefore, Receives, IsBounded, NothingWaits}
-use Rattle.sd_link.proofs.Histories.{sends-append, got-append, before-append, world-goes, goes_nowhere, settled-goes}
+use Rattle.sd_link.specs.Link.{GoesOn, Moves, TicksBefore, Receives, IsReached, NothingWaits}
+use Rattle.sd_link.proofs.Histories.{sends-append, got-append, before-append, world-goes, goes_nowhere, goes_lawful, settled-goes}
 use Rattle.sd_segment.specs.Segment.{SegmentView, history_of, text_drained}
 use Rattle.sd_segment.specs.Passing.{Passes, WentOn, AllServes, TakesTurn, Advances, Waits}
 
@@ -23,7 +23,6 @@ passes_then a b c xs ys first second = record {
   drained = second.drained ∙ first.drained;
   faults = second.faults ∙ first.faults;
   broken = second.broken ∙ first.broken;
-  lawful = second.lawful;
   bounded = second.bounded;
   stood = first.stood;
 }
@@ -82,7 +81,7 @@ none_left (x ∷ xs) next is none = absurd (cc)
 -- ---- a wait
 
 pub goes_of : (old new : SegmentView) (part : List Step) → Passes old new part → GoesOn (history_of old) (history_of new) part
-goes_of old new part p = record { config = p.config; events = p.events; steps = p.steps; lawful = λ l. p.lawful }
+goes_of old new part p = goes_lawful (history_of old) (history_of new) part p.config p.events p.steps p.bounded.lawful
 
 pub went_goes : (old new : SegmentView) (part : List Step) → WentOn old new part → GoesOn (history_of old) (history_of new) part
 went_goes old new part (inr p) = goes_of old new part p
@@ -90,9 +89,9 @@ went_goes old new part (inl same) =
     subst (λ (l : List Step). GoesOn (history_of old) (history_of new) l) (sym same.0)
     (subst (λ (v : SegmentView). GoesOn (history_of old) (history_of v) []) (sym same.1) (goes_nowhere (history_of old)))
 
-pub went_bounded : (old new : SegmentView) (part : List Step) → WentOn old new part → IsBounded (history_of old) → IsBounded (history_of new)
+pub went_bounded : (old new : SegmentView) (part : List Step) → WentOn old new part → IsReached (history_of old) → IsReached (history_of new)
 went_bounded old new part (inr p) b = p.bounded
-went_bounded old new part (inl same) b = subst (λ (v : SegmentView). IsBounded (history_of v)) (sym same.1) b
+went_bounded old new part (inl same) b = subst (λ (v : SegmentView). IsReached (history_of v)) (sym same.1) b
 
 pub went_drained : (old new : SegmentView) (part : List Step) → WentOn old new part → text_drained new ≡ text_drained old
 went_drained old new part (inr p) = p.drained

@@ -1,9 +1,9 @@
 -- How a segment goes on.
 use Rattle.std.specs.Prelude.{◌≡◌, ◌⊎◌, ℕ, List, [], ◌∷◌, ◌++◌, Option, Some, None}
 use Rattle.sd_outside.specs.declared.packet.Packet.{Packet}
-use Rattle.sd_link.specs.Steps.{Step, Tick, Send, Serve, Data, End, Get, IsLawfulSoFar, world_of}
+use Rattle.sd_link.specs.Steps.{Step, Tick, Send, Serve, Data, End, Get, world_of}
 use Rattle.sd_link.specs.Parts.{sends_in, got_in}
-use Rattle.sd_link.specs.Link.{TicksBefore, IsBounded}
+use Rattle.sd_link.specs.Link.{TicksBefore, IsReached}
 use Rattle.sd_segment.specs.Segment.{SegmentView, history_of, text_drained}
 
 -- the segment went on by these steps, and drained nothing
@@ -15,8 +15,7 @@ pub record Passes (old new : SegmentView) (part : List Step) : Type 0 where
   pub faults : new.faults ≡ old.faults
   pub broken : new.broken ≡ old.broken
   -- each of its steps was one that may happen
-  pub lawful : IsLawfulSoFar (history_of new)
-  pub bounded : IsBounded (history_of new)
+  pub bounded : IsReached (history_of new)
   -- and it stood where its world did
   pub stood : (world_of (history_of old)).tick ≡ old.tick
 

@@ -2,7 +2,7 @@
 ghost use Rattle.std.specs.Prelude.{◌≡◌, ◌⊎◌, ◌≤◌, [], IfOk, IsTrue, IsFalse};
 ghost use Rattle.sd_config.specs.Events.{fates_of, IsEvents};
 ghost use Rattle.sd_link.specs.Lawful.{IsLawful, IsFrontOf};
-ghost use Rattle.sd_link.specs.Link.{last_tick, IsBounded, NothingWaits};
+ghost use Rattle.sd_link.specs.Link.{last_tick, IsReached, NothingWaits, IsAtRest};
 ghost use Rattle.sd_link.specs.Steps.{world_of, whole_record};
 ghost use Rattle.sd_link.specs.Printing.{record_text};
 ghost use Rattle.sd_config.specs.Config.{IsConfig};
@@ -91,7 +91,8 @@ impl Segment {
     /// What holds of every segment, whatever calls were made: it does nothing.
     pub fn facts(&self)
         ensures lawful { let h = history_of self.now in IsLawful h.config (fates_of h.events) h.steps }
-        ensures bounded { IsBounded (history_of self.now) }
+        ensures world { IsReached (history_of self.now) }
+        ensures rests { Rests self.now → IsAtRest (history_of self.now) }
         ensures clock { (world_of (history_of self.now)).tick ≡ self.now.tick }
         ensures drained { IsFrontOf (text_drained self.now) (record_text (whole_record (history_of self.now))) }
 
@@ -105,7 +106,7 @@ impl Segment {
         ensures value { result ≡ self.now.tick }
         ensures stood { (world_of (history_of self.now)).tick ≡ self.now.tick }
         ensures bound { result ≤ last_tick }
-        ensures bounded { IsBounded (history_of self.now) }
+        ensures bounded { IsReached (history_of self.now) }
         ensures front { IsFrontOf (text_drained self.now) (record_text (whole_record (history_of self.now))) }
         // Where nothing is still to come to the client, all that is due to it has come.
         ensures settled { self.now.to_client ≡ [] → NothingWaits (history_of self.now) }
@@ -117,7 +118,7 @@ impl Segment {
     pub(crate) fn is_ready(&self) -> bool
         ensures ready { IsTrue result → Rests self.now }
         ensures whole { IsTrue self.now.broken → IsFalse result }
-        ensures bounded { IsBounded (history_of self.now) }
+        ensures bounded { IsReached (history_of self.now) }
     {
         !self.broken && self.to_server.next().is_none() && self.server.next_due(self.tick).is_none()
     }

@@ -5,13 +5,12 @@ use Rattle.std.specs.Fmt.{decimal}
 use Rattle.std.proofs.lemmas.List.Splits.{join_with_byte-slice_split}
 use Rattle.sd_rpc_msg.specs.declared.message.OpaqueAuth.{OpaqueAuth}
 use Rattle.sd_rpc_msg.specs.Laws.{IsWord}
-use Rattle.sd_link.specs.Texts.{Text}
-use Rattle.sd_script.specs.Texts.{cut, IsNumber}
-use Rattle.sd_script.specs.Runs.{IsRuns}
-use Rattle.sd_script.proofs.Exits.{firsts, others}
-use Rattle.sd_script.proofs.NumberLemmas.{one_number}
-use Rattle.sd_script.proofs.ItemLemmas.{one_runs}
-use Rattle.sd_script.proofs.ReadBack.{Lacks, cut_joined, decimal_lacks}
+use Rattle.sd_text.specs.Texts.{Text, cut, IsNumber}
+use Rattle.sd_text.specs.Runs.{IsRuns}
+use Rattle.sd_text.proofs.Exits.{firsts, others}
+use Rattle.sd_text.proofs.NumberLemmas.{one_number}
+use Rattle.sd_text.proofs.ItemLemmas.{one_runs}
+use Rattle.sd_text.proofs.ReadBack.{Lacks, cut_joined, decimal_lacks}
 use Rattle.sd_show.specs.declared.procedures.Procedure.{Procedure}
 use Rattle.sd_show.specs.Parts.{Part, exact, run, procedure_text, BeginWith}
 use Rattle.sd_show.specs.Packing.{BodyStands, AuthStands, IsProcedure}

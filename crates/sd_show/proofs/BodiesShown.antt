@@ -13,7 +13,7 @@ use Rattle.sd_rpc_msg.specs.declared.message.Outcome.TheVariants.{Success, ProgU
 use Rattle.sd_rpc_msg.specs.declared.message.Message.{Message}
 use Rattle.sd_rpc_msg.specs.declared.message.Message.TheVariants.{Asked, Answered}
 use Rattle.sd_rpc_msg.specs.Layout.{message, message_value, outcome_value}
-use Rattle.sd_link.specs.Texts.{Text, addr_text}
+use Rattle.sd_text.specs.Texts.{Text, addr_text}
 use Rattle.sd_show.specs.declared.error.ShowError.{ShowError}
 use Rattle.sd_show.specs.declared.error.ShowError.TheVariants.{Bad, NoMemory}
 use Rattle.sd_show.specs.declared.procedures.Procedure.{Procedure}

@@ -5,11 +5,10 @@ use Rattle.std.proofs.lemmas.Bool.{false≢true}
 use Rattle.sd_xdr.specs.Kind.{Value, second, first}
 use Rattle.sd_rpc_msg.specs.declared.message.OpaqueAuth.{OpaqueAuth}
 use Rattle.sd_rpc_msg.specs.declared.message.Call.{Call}
-use Rattle.sd_link.specs.Texts.{Text}
-use Rattle.sd_script.specs.Texts.{IsNumber}
-use Rattle.sd_script.specs.Reading.{Finds}
-use Rattle.sd_script.specs.Runs.{IsRuns, IsRunsWithin}
-use Rattle.sd_script.proofs.Exits.{firsts, others}
+use Rattle.sd_text.specs.Texts.{Text, IsNumber}
+use Rattle.sd_text.specs.Answers.{Finds}
+use Rattle.sd_text.specs.Runs.{IsRuns, IsRunsWithin}
+use Rattle.sd_text.proofs.Exits.{firsts, others}
 use Rattle.std.proofs.lemmas.Fmt.{decimal_injective}
 use Rattle.sd_show.specs.declared.procedures.Procedure.{Procedure}
 use Rattle.sd_show.specs.declared.procedures.Known.{Known}

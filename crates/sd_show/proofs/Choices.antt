@@ -3,8 +3,8 @@ use Rattle.std.proofs.Common.{◌≡◌, ℕ, List, ◌∷◌, sym, ap, subst, �
 use Rattle.sd_rpc_msg.specs.declared.message.OpaqueAuth.{OpaqueAuth}
 use Rattle.sd_rpc_msg.specs.declared.message.Outcome.{Outcome}
 use Rattle.sd_rpc_msg.specs.declared.message.Outcome.TheVariants.{Success, ProgUnavail, ProgMismatch, ProcUnavail, GarbageArgs, RpcMismatch, AuthError}
-use Rattle.sd_link.specs.Texts.{Text}
-use Rattle.sd_script.proofs.Exits.{firsts}
+use Rattle.sd_text.specs.Texts.{Text}
+use Rattle.sd_text.proofs.Exits.{firsts}
 use Rattle.sd_show.specs.Packing.{RangeStands, StateStands}
 use Rattle.sd_show.proofs.Behind.{after}
 

@@ -6,12 +6,11 @@ use Rattle.sd_rpc_msg.specs.declared.message.Message.{Message}
 use Rattle.sd_rpc_msg.specs.declared.message.Message.TheVariants.{Asked, Answered}
 use Rattle.sd_tftp.specs.declared.packet.TftpPacket.{TftpPacket}
 use Rattle.sd_tftp.specs.Grammar.{packet_bytes}
-use Rattle.sd_link.specs.Texts.{Text}
-use Rattle.sd_script.specs.Texts.{IsAddr}
-use Rattle.sd_script.specs.declared.error.LineError.{LineError}
-use Rattle.sd_script.specs.declared.error.LineError.TheVariants.{Outside, NoMemory}
-use Rattle.sd_script.specs.Reading.{Reads}
-use Rattle.sd_script.proofs.Exits.{firsts, others}
+use Rattle.sd_text.specs.Texts.{Text, IsAddr}
+use Rattle.sd_text.specs.declared.error.LineError.{LineError}
+use Rattle.sd_text.specs.declared.error.LineError.TheVariants.{Outside, NoMemory}
+use Rattle.sd_text.specs.Answers.{Reads}
+use Rattle.sd_text.proofs.Exits.{firsts, others}
 use Rattle.sd_show.specs.Parts.{tftp_parts, BeginWith}
 use Rattle.sd_show.specs.Packing.{MessageStands, FileStands, IsDatagramOf, IsDatagramOfFile, IsFileText, IsMessageText, IsDatagramText, IsFrameText, IsPacketText}
 use Rattle.sd_show.proofs.OneMessage as messages

@@ -6,7 +6,7 @@ use Rattle.sd_xdr.specs.declared.error.MsgError.{MsgError}
 use Rattle.sd_xdr.specs.Kind.{part, Kind, any, void, word, ◌&◌, given, where_zero, Value, none, number, ◌⊗◌, number_of}
 use Rattle.sd_xdr.specs.Reading.{Cursor, Read, ◌>>=◌, Stops, reading}
 use Rattle.sd_xdr.proofs.Sound.{bind_ok, bind_err, ok_is}
-use Rattle.sd_link.specs.Texts.{Text}
+use Rattle.sd_text.specs.Texts.{Text}
 use Rattle.sd_show.specs.declared.fields.Field.{Field}
 use Rattle.sd_show.specs.declared.fields.Field.TheVariants as fields
 use Rattle.sd_show.specs.Forms.{Form, form_kind, form_text}

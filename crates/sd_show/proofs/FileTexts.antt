@@ -7,8 +7,8 @@ use Rattle.sd_xdr.specs.Kind.{bytes_of}
 use Rattle.sd_tftp.specs.declared.packet.TftpPacket.{TftpPacket}
 use Rattle.sd_tftp.specs.declared.packet.TftpPacket.TheVariants.{Rrq, Wrq, Block, Error}
 use Rattle.sd_tftp.specs.Grammar.{HasNoZero}
-use Rattle.sd_link.specs.Texts.{Text}
-use Rattle.sd_script.proofs.Exits.{others}
+use Rattle.sd_text.specs.Texts.{Text}
+use Rattle.sd_text.proofs.Exits.{others}
 use Rattle.sd_show.specs.Forms.{quoted, longest}
 use Rattle.sd_show.specs.Parts.{exact, quoted_part, IsPart, BeginWith}
 use Rattle.sd_show.specs.Saying.{IsQuoted}

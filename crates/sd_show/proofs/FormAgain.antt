@@ -5,7 +5,7 @@ use Rattle.sd_outside.specs.Bytes.{IsBytes}
 use Rattle.sd_xdr.specs.Kind.{Word, any, flag, between, char, count, rpcvers, allows, written, Opaque, fixed, upto, auth_body, Value, none, number, bytes, ◌⊗◌, number_of, bytes_of, first, second}
 use Rattle.sd_xdr.specs.Grammar.{EachSpelled, WordSpelled, HasSpelling}
 use Rattle.sd_bootparams.specs.Layout.{ip, ip_value}
-use Rattle.sd_script.proofs.ReadBack.{runs_again, ip_again}
+use Rattle.sd_text.proofs.ReadBack.{runs_again, ip_again}
 use Rattle.sd_show.specs.Forms.{Form, as_number, as_ip, as_run, as_quoted, ◌⊞◌, in_parens, in_brackets, form_kind, ip_of, items_behind, items_text, form_text, longest, OpaqueFits, ItemsBehind, AreItems, IsFormText}
 
 -- the bytes in a value are bytes, and no more than a datagram has

@@ -9,15 +9,13 @@ use Rattle.hex.specs.Hex.{encode_lower}
 use Rattle.sd_outside.specs.Bytes.{IsBytes}
 use Rattle.sd_xdr.specs.Kind.{Value, none, number, bytes, ◌⊗◌, first, second}
 use Rattle.sd_bootparams.specs.Layout.{ip_value}
-use Rattle.sd_link.specs.Texts.{Text, ip_text}
-use Rattle.sd_link.specs.Runs.{Item, pairs, repeated, item_text}
-use Rattle.sd_script.specs.Texts.{IsNumber, IsIp, cut}
-use Rattle.sd_script.specs.Runs.{IsItem, IsItems, IsRuns}
-use Rattle.sd_script.proofs.Exits.{firsts, others}
-use Rattle.sd_script.proofs.HexCase.{length-encoded}
-use Rattle.sd_script.proofs.ItemLemmas.{one_item, one_runs, pair_text}
-use Rattle.sd_script.proofs.MacLemmas.{one_ip}
-use Rattle.sd_script.proofs.NumberLemmas.{one_number}
+use Rattle.sd_text.specs.Texts.{Text, ip_text, IsNumber, IsIp, cut}
+use Rattle.sd_text.specs.Runs.{Item, pairs, repeated, item_text, IsItem, IsItems, IsRuns}
+use Rattle.sd_text.proofs.Exits.{firsts, others}
+use Rattle.sd_text.proofs.HexCase.{length-encoded}
+use Rattle.sd_text.proofs.ItemLemmas.{one_item, one_runs, pair_text}
+use Rattle.sd_text.proofs.MacLemmas.{one_ip}
+use Rattle.sd_text.proofs.NumberLemmas.{one_number}
 use Rattle.sd_show.specs.Forms.{is_plain, quoted_byte, quoted, Form, as_number, as_ip, as_run, as_quoted, ◌⊞◌, in_parens, in_brackets, ItemsBehind, AreItems, IsFormText}
 use Rattle.sd_show.proofs.PlainTexts.{IsPlainByte, Plain, plain_number, plain_ip, plain_runs, number_first}
 

@@ -5,7 +5,7 @@ use Rattle.std.proofs.lemmas.Bool.{cases_lt, le-ltb, lt-ltb}
 use Rattle.sd_xdr.specs.Kind.{Word, any, flag, between, char, count, rpcvers, allows, written, Opaque, fixed, upto, auth_body, Value, none, number, bytes, ◌⊗◌, first, second}
 use Rattle.sd_xdr.specs.Grammar.{WordSpelled, EachSpelled, HasSpelling}
 use Rattle.sd_bootparams.specs.Layout.{ip, ip_value}
-use Rattle.sd_link.specs.Texts.{Text}
+use Rattle.sd_text.specs.Texts.{Text}
 use Rattle.sd_show.specs.declared.fields.Field.{Field}
 use Rattle.sd_show.specs.declared.fields.Field.TheVariants as fields
 use Rattle.sd_show.specs.Forms.{Form, as_number, as_ip, as_run, as_quoted, ◌⊞◌, in_parens, in_brackets, form_kind, OpaqueFits, ItemsBehind, AreItems, IsFormText}

@@ -7,8 +7,8 @@ use Rattle.std.proofs.lemmas.List.Elements.{All-head, All-tail}
 use Rattle.hex.specs.Hex.{encode_lower}
 use Rattle.sd_outside.specs.Bytes.{IsBytes}
 use Rattle.sd_xdr.specs.Kind.{Value, none, number, bytes, ◌⊗◌, first, second}
-use Rattle.sd_link.specs.Texts.{Text, ip_text}
-use Rattle.sd_script.proofs.ReadBack.{Lacks, digits_lack}
+use Rattle.sd_text.specs.Texts.{Text, ip_text}
+use Rattle.sd_text.proofs.ReadBack.{Lacks, digits_lack}
 use Rattle.sd_show.specs.Forms.{is_plain, quoted_byte, quoted, Form, as_number, as_ip, as_run, as_quoted, ◌⊞◌, in_parens, in_brackets, ItemsBehind, AreItems, IsFormText}
 use Rattle.sd_show.specs.Words.{onto, depth_behind, inside_behind, is_between, words_from, words_at, words}
 use Rattle.sd_show.proofs.PlainTexts.{IsPlainByte, Plain, plain_number, plain_ip, plain_runs}

@@ -8,8 +8,8 @@ use Rattle.std.proofs.lemmas.Str.Parse.{digit_at}
 use Rattle.sd_xdr.specs.Kind.{whole, Kind, ended, Value, number, ◌⊗◌, second}
 use Rattle.sd_xdr.specs.Grammar.{writes, HasSpelling}
 use Rattle.sd_rpc_msg.specs.declared.message.OpaqueAuth.{OpaqueAuth}
-use Rattle.sd_link.specs.Texts.{Text}
-use Rattle.sd_script.proofs.Exits.{firsts, others}
+use Rattle.sd_text.specs.Texts.{Text}
+use Rattle.sd_text.proofs.Exits.{firsts, others}
 use Rattle.sd_show.specs.declared.fields.Field.{Field}
 use Rattle.sd_show.specs.declared.procedures.Procedure.{Procedure}
 use Rattle.sd_show.specs.declared.procedures.Known.{Known}

@@ -2,7 +2,7 @@
 use Rattle.std.proofs.Common.{◌≡◌, ◌++◌, Ok, sym, subst}
 use Rattle.sd_xdr.specs.Kind.{Value}
 use Rattle.sd_xdr.specs.Reading.{Cursor, reading}
-use Rattle.sd_link.specs.Texts.{Text}
+use Rattle.sd_text.specs.Texts.{Text}
 use Rattle.sd_show.specs.declared.fields.Leaf.{Leaf}
 use Rattle.sd_show.specs.Shapes.{leaf_form}
 use Rattle.sd_show.specs.Forms.{form_kind, form_text}

@@ -5,7 +5,7 @@ use Rattle.sd_xdr.specs.declared.error.MsgError.{MsgError}
 use Rattle.sd_xdr.specs.Kind.{flag, list, Value, none, number, chain}
 use Rattle.sd_xdr.specs.Reading.{Cursor, Stops, word_reading, reading, with_front}
 use Rattle.sd_xdr.proofs.Loops.{list_ends, list_goes_on, list_flag_stops, list_item_stops}
-use Rattle.sd_link.specs.Texts.{Text}
+use Rattle.sd_text.specs.Texts.{Text}
 use Rattle.sd_show.specs.Forms.{Form, form_kind, form_text, in_brackets, items_behind, items_text}
 
 -- what stands before the next item

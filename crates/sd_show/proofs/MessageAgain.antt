@@ -17,8 +17,8 @@ use Rattle.sd_rpc_msg.specs.Laws.{IsWord, IsAuth, IsOutcome, IsMessage}
 use Rattle.sd_tftp.specs.declared.packet.TftpPacket.{TftpPacket}
 use Rattle.sd_tftp.specs.Grammar as tftp
 use Rattle.sd_tftp.specs.Grammar.{spells_rrq, spells_wrq, spells_data, spells_ack, spells_error}
-use Rattle.sd_link.specs.Texts.{Text, addr_text}
-use Rattle.sd_script.specs.Packets.{AddrFits}
+use Rattle.sd_text.specs.Texts.{Text, addr_text}
+use Rattle.sd_text.specs.Packets.{AddrFits}
 use Rattle.sd_show.specs.declared.procedures.Procedure.{Procedure}
 use Rattle.sd_show.specs.declared.calls.Heard.{Heard}
 use Rattle.sd_show.specs.Parts.{Part, exact, run, auth_parts, procedure_text, quoted_part}

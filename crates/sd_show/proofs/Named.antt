@@ -4,8 +4,8 @@ use Rattle.std.proofs.lemmas.List.{drop_at}
 use Rattle.sd_outside.specs.declared.packet.Mac.{Mac}
 use Rattle.sd_rarp.specs.declared.frame.RarpFrame.{RarpFrame}
 use Rattle.sd_rarp.specs.declared.frame.RarpFrame.TheVariants.{Request, Reply}
-use Rattle.sd_link.specs.Texts.{Text}
-use Rattle.sd_script.proofs.Exits.{firsts, others}
+use Rattle.sd_text.specs.Texts.{Text}
+use Rattle.sd_text.proofs.Exits.{firsts, others}
 use Rattle.sd_show.specs.Frames.{MacsStand, HostStands, RequestStands, ReplyStands, FrameStands}
 use Rattle.sd_show.proofs.Behind.{after}
 use Rattle.sd_show.proofs.Choices.{other}

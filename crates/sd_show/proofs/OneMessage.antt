@@ -12,7 +12,7 @@ use Rattle.sd_rpc_msg.specs.declared.message.Outcome.TheVariants.{Success, ProgU
 use Rattle.sd_rpc_msg.specs.declared.message.Message.{Message}
 use Rattle.sd_rpc_msg.specs.declared.message.Message.TheVariants.{Asked, Answered}
 use Rattle.sd_rpc_msg.specs.Laws.{IsAuth, IsOutcome, IsMessage}
-use Rattle.sd_link.specs.Texts.{Text}
+use Rattle.sd_text.specs.Texts.{Text}
 use Rattle.sd_show.specs.declared.procedures.Procedure.{Procedure}
 use Rattle.sd_show.specs.declared.procedures.Known.{Known}
 use Rattle.sd_show.specs.Parts.{Part, exact, run, auth_parts, procedure_text, BeginWith}

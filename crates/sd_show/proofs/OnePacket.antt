@@ -19,13 +19,12 @@ use Rattle.sd_tftp.specs.Grammar.{IsInRange, packet_bytes}
 use Rattle.sd_rarp.specs.declared.frame.RarpFrame.{RarpFrame}
 use Rattle.sd_rarp.specs.declared.frame.RarpFrame.TheVariants.{Request, Reply}
 use Rattle.sd_rarp.specs.Frame.{frame_bytes}
-use Rattle.sd_link.specs.Texts.{Text, mac_text, ip_text, addr_text}
-use Rattle.sd_script.specs.Texts.{IsNumber, IsIp, IsAddr}
-use Rattle.sd_script.specs.Packets.{AddrFits}
-use Rattle.sd_script.proofs.Exits.{firsts, others}
-use Rattle.sd_script.proofs.MacLemmas.{one_mac, one_ip}
-use Rattle.sd_script.proofs.NumberLemmas.{one_number}
-use Rattle.sd_script.proofs.ReadBack.{ip_again, addr_again}
+use Rattle.sd_text.specs.Texts.{Text, mac_text, ip_text, addr_text, IsNumber, IsIp, IsAddr}
+use Rattle.sd_text.specs.Packets.{AddrFits}
+use Rattle.sd_text.proofs.Exits.{firsts, others}
+use Rattle.sd_text.proofs.MacLemmas.{one_mac, one_ip}
+use Rattle.sd_text.proofs.NumberLemmas.{one_number}
+use Rattle.sd_text.proofs.ReadBack.{ip_again, addr_again}
 use Rattle.sd_show.specs.Forms.{as_quoted}
 use Rattle.sd_show.specs.Words.{words}
 use Rattle.sd_show.specs.Parts.{Part, exact, run, quoted_part, tftp_parts, mac_part, ip_part, kind_parts, frame_parts, BeginWith}

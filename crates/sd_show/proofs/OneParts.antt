@@ -7,9 +7,9 @@ use Rattle.sd_xdr.specs.Kind.{void, Value, number, ◌⊗◌, number_of, first, 
 use Rattle.sd_xdr.specs.Grammar.{HasSpelling}
 use Rattle.sd_rpc_msg.specs.declared.message.OpaqueAuth.{OpaqueAuth}
 use Rattle.sd_rpc_msg.specs.Laws.{IsWord, IsAuth}
-use Rattle.sd_link.specs.Texts.{Text}
-use Rattle.sd_script.proofs.Exits.{firsts, others}
-use Rattle.sd_script.proofs.ItemLemmas.{one_runs}
+use Rattle.sd_text.specs.Texts.{Text}
+use Rattle.sd_text.proofs.Exits.{firsts, others}
+use Rattle.sd_text.proofs.ItemLemmas.{one_runs}
 use Rattle.sd_show.specs.declared.fields.Field.TheVariants as names
 use Rattle.sd_show.specs.declared.procedures.Procedure.{Procedure}
 use Rattle.sd_show.specs.Forms.{Form, IsFormText}

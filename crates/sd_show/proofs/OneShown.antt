@@ -22,7 +22,7 @@ use Rattle.sd_rarp.specs.declared.frame.RarpFrame.{RarpFrame}
 use Rattle.sd_rarp.specs.declared.frame.RarpError.{RarpError}
 use Rattle.sd_rarp.specs.Frame.{Spells}
 use Rattle.sd_rarp.proofs.Places.{spelled}
-use Rattle.sd_link.specs.Texts.{Text}
+use Rattle.sd_text.specs.Texts.{Text}
 use Rattle.sd_show.specs.declared.procedures.Procedure.{Procedure}
 use Rattle.sd_show.specs.declared.procedures.Known.{Known}
 use Rattle.sd_show.specs.declared.calls.Heard.{Heard}

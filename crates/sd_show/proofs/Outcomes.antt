@@ -7,9 +7,8 @@ use Rattle.sd_rpc_msg.specs.declared.message.Call.{Call}
 use Rattle.sd_rpc_msg.specs.declared.message.Reply.{Reply}
 use Rattle.sd_rpc_msg.specs.declared.message.Message.{Message}
 use Rattle.sd_rpc_msg.specs.declared.message.Message.TheVariants.{Asked, Answered}
-use Rattle.sd_link.specs.Texts.{Text}
-use Rattle.sd_script.specs.Texts.{IsNumber}
-use Rattle.sd_script.proofs.Exits.{firsts, others}
+use Rattle.sd_text.specs.Texts.{Text, IsNumber}
+use Rattle.sd_text.proofs.Exits.{firsts, others}
 use Rattle.sd_show.specs.declared.procedures.Known.{Known}
 use Rattle.sd_show.specs.Programs.{known_text}
 use Rattle.sd_show.specs.Packing.{RawStands, KnownStands, AcceptedStands, RangeStands, OutcomeStands, CallStands, ReplyStands, MessageStands}

@@ -6,9 +6,9 @@ use Rattle.std.proofs.lemmas.List.{get_or_append_left, get_or-append-add, get_or
 use Rattle.sd_outside.specs.Bytes.{IsBytes}
 use Rattle.sd_xdr.specs.Kind.{End, whole, Kind, void, Value, number, ◌⊗◌, number_of, first, second}
 use Rattle.sd_xdr.specs.Grammar.{word_bytes, filled, counted, Reads, reads_void, reads_word, reads_fixed, reads_upto, reads_auth, reads_rest, reads_row, reads_union, reads_end, reads_more, reads_given, reads_ended, writes, HasSpelling}
-use Rattle.sd_link.specs.Texts.{Text}
-use Rattle.sd_link.specs.Runs.{runs_text}
-use Rattle.sd_script.proofs.ReadBack.{runs_again}
+use Rattle.sd_text.specs.Texts.{Text}
+use Rattle.sd_text.specs.Runs.{runs_text}
+use Rattle.sd_text.proofs.ReadBack.{runs_again}
 use Rattle.sd_show.specs.declared.fields.Field.{Field}
 use Rattle.sd_show.specs.declared.fields.Field.TheVariants as names
 use Rattle.sd_show.specs.declared.procedures.Known.{Known}

@@ -7,11 +7,10 @@ use Rattle.std.proofs.lemmas.List.Elements.{All-cons, All-nil, All-head, All-tai
 use Rattle.std.proofs.lemmas.List.Splits.{join_with_byte-slice_split}
 use Rattle.sd_outside.specs.Bytes.{IsBytes}
 use Rattle.sd_xdr.specs.Kind.{Value, none, number, bytes, ◌⊗◌, first, second}
-use Rattle.sd_link.specs.Texts.{Text, ip_text}
-use Rattle.sd_script.specs.Texts.{cut, IsIp}
-use Rattle.sd_script.specs.Values.{is_lower_digit}
-use Rattle.sd_script.specs.Runs.{IsItems, IsRuns}
-use Rattle.sd_script.proofs.ReadBack.{Lacks, decimal_lacks, item_lacks, ip_lacks, join_lacks}
+use Rattle.sd_text.specs.Texts.{Text, ip_text, cut, IsIp}
+use Rattle.sd_text.specs.Values.{is_lower_digit}
+use Rattle.sd_text.specs.Runs.{IsItems, IsRuns}
+use Rattle.sd_text.proofs.ReadBack.{Lacks, decimal_lacks, item_lacks, ip_lacks, join_lacks}
 use Rattle.sd_show.specs.Words.{depth_behind, inside_behind, is_between}
 use Rattle.sd_show.specs.Forms.{quoted, Form, as_number, as_ip, as_run, as_quoted, ◌⊞◌, in_parens, in_brackets, ItemsBehind, AreItems, IsFormText}
 use Rattle.sd_show.proofs.Whole.{Closed}

@@ -12,12 +12,11 @@ use Rattle.std.proofs.lemmas.List.Splits.{join_with_byte-slice_split}
 use Rattle.sd_outside.specs.Bytes.{IsMac}
 use Rattle.sd_outside.specs.declared.packet.Addr.{Addr}
 use Rattle.sd_outside.specs.declared.packet.Mac.{Mac}
-use Rattle.sd_link.specs.Texts.{Text, mac_text, ip_text, addr_text}
-use Rattle.sd_script.specs.Values.{is_lower_digit}
-use Rattle.sd_script.specs.Runs.{IsItems, IsRuns}
-use Rattle.sd_script.specs.Texts.{cut}
-use Rattle.sd_script.specs.Packets.{AddrFits}
-use Rattle.sd_script.proofs.ReadBack.{Lacks, decimal_lacks, digits_lack, item_lacks, join_lacks, ip_lacks, addr_lacks}
+use Rattle.sd_text.specs.Texts.{Text, mac_text, ip_text, addr_text, cut}
+use Rattle.sd_text.specs.Values.{is_lower_digit}
+use Rattle.sd_text.specs.Runs.{IsItems, IsRuns}
+use Rattle.sd_text.specs.Packets.{AddrFits}
+use Rattle.sd_text.proofs.ReadBack.{Lacks, decimal_lacks, digits_lack, item_lacks, join_lacks, ip_lacks, addr_lacks}
 
 -- ---- bytes that stand for themselves
 

@@ -6,10 +6,10 @@ use Rattle.std.proofs.lemmas.List.{append-nil, append_cancel_right}
 use Rattle.std.proofs.lemmas.List.Elements.{All-append, All-cons, All-nil}
 use Rattle.hex.specs.Hex.{encode_lower, lower_digits}
 use Rattle.sd_outside.specs.Bytes.{IsBytes}
-use Rattle.sd_link.specs.Texts.{Text}
-use Rattle.sd_script.proofs.ReadBack.{Lacks, digits_lack}
-use Rattle.sd_script.proofs.ItemLemmas.{pair_text}
-use Rattle.sd_script.proofs.Exits.{firsts, others}
+use Rattle.sd_text.specs.Texts.{Text}
+use Rattle.sd_text.proofs.ReadBack.{Lacks, digits_lack}
+use Rattle.sd_text.proofs.ItemLemmas.{pair_text}
+use Rattle.sd_text.proofs.Exits.{firsts, others}
 use Rattle.hex.specs.Hex.{decode_of}
 use Rattle.hex.proofs.HexLemmas.{decode_of-encode_lower}
 use Rattle.sd_show.specs.Forms.{is_plain, quoted_byte, quoted}

@@ -11,7 +11,7 @@ use Rattle.sd_xdr.specs.Reading.{Cursor, Read, ◌>>=◌, start, Stops, end_read
 use Rattle.sd_xdr.proofs.OneItem.{ends, goes_on}
 use Rattle.sd_xdr.proofs.Sound.{refused}
 use Rattle.sd_xdr.proofs.Whole.{found}
-use Rattle.sd_link.specs.Texts.{Text}
+use Rattle.sd_text.specs.Texts.{Text}
 use Rattle.sd_show.specs.declared.fields.Field.{Field}
 use Rattle.sd_show.specs.declared.fields.Field.TheVariants as fields
 use Rattle.sd_show.specs.declared.procedures.Known.{Known}

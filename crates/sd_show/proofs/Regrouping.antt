@@ -3,7 +3,7 @@ use Rattle.std.proofs.Common.{◌≡◌, ℕ, ◌==◌, Bool, true, false, cond,
 use Rattle.std.proofs.lemmas.List.{append-nil}
 use Rattle.sd_xdr.specs.Kind.{void, Value, none, number, ◌⊗◌, number_of, first, second}
 use Rattle.sd_xdr.specs.Grammar.{word_bytes, writes, HasSpelling}
-use Rattle.sd_link.specs.Texts.{Text}
+use Rattle.sd_text.specs.Texts.{Text}
 use Rattle.sd_show.specs.declared.fields.Field.{Field}
 use Rattle.sd_show.specs.declared.fields.Field.TheVariants as fields
 use Rattle.sd_show.specs.Fields.{field_form, Fields, nothing, field, ◌⊕◌, numbered, checked, fields_kind, fields_parts}

@@ -4,11 +4,11 @@ use Rattle.std.proofs.lemmas.Bool.{cases_Bool, eqb-true, and_parts}
 use Rattle.std.proofs.lemmas.List.{append-nil, append_cancel_right, drop_more, drop_all}
 use Rattle.sd_xdr.specs.Kind.{Value, none, number, bytes, ◌⊗◌, first, second}
 use Rattle.sd_xdr.specs.Grammar.{word_bytes, writes, writes_list}
-use Rattle.sd_link.specs.Texts.{Text}
-use Rattle.sd_script.specs.declared.error.LineError.{LineError}
-use Rattle.sd_script.specs.declared.error.LineError.TheVariants.{Outside, NoMemory}
-use Rattle.sd_script.specs.Judging.{Tells}
-use Rattle.sd_script.proofs.Exits.{firsts, others}
+use Rattle.sd_text.specs.Texts.{Text}
+use Rattle.sd_text.specs.declared.error.LineError.{LineError}
+use Rattle.sd_text.specs.declared.error.LineError.TheVariants.{Outside, NoMemory}
+use Rattle.sd_text.specs.Answers.{Tells}
+use Rattle.sd_text.proofs.Exits.{firsts, others}
 use Rattle.sd_show.specs.declared.fields.Leaf.{Leaf}
 use Rattle.sd_show.specs.declared.fields.Leaf.TheVariants as leaves
 use Rattle.sd_show.specs.declared.fields.Row.{Row}

@@ -5,7 +5,7 @@ use Rattle.sd_xdr.specs.declared.error.MsgError.{MsgError}
 use Rattle.sd_xdr.specs.declared.error.MsgError.TheVariants.{Xdr, RpcVersion, AuthLong, NoMemory}
 use Rattle.sd_xdr.specs.Kind.{part, Kind, ◌&◌, Value, ◌⊗◌}
 use Rattle.sd_xdr.specs.Reading.{Cursor, Read, ◌>>=◌, Stops, reading}
-use Rattle.sd_link.specs.Texts.{Text}
+use Rattle.sd_text.specs.Texts.{Text}
 use Rattle.sd_show.specs.declared.fields.Leaf.{Leaf}
 use Rattle.sd_show.specs.declared.fields.Row.{Row}
 use Rattle.sd_show.specs.declared.fields.Row.TheVariants.{Attributes, Settings, Mapping, Mount, Entry}

@@ -24,8 +24,8 @@ use Rattle.sd_rarp.specs.declared.frame.RarpFrame.{RarpFrame}
 use Rattle.sd_rarp.specs.declared.frame.RarpFrame.TheVariants.{Request, Reply}
 use Rattle.sd_rarp.specs.Frame.{fixed_part, Spells, frame_bytes, IsLaidOut}
 use Rattle.sd_rarp.proofs.Spelling.{nested, length-nested}
-use Rattle.sd_link.specs.Texts.{Text, mac_text, ip_text, addr_text}
-use Rattle.sd_script.specs.Packets.{AddrFits}
+use Rattle.sd_text.specs.Texts.{Text, mac_text, ip_text, addr_text}
+use Rattle.sd_text.specs.Packets.{AddrFits}
 use Rattle.sd_show.specs.declared.procedures.Procedure.{Procedure}
 use Rattle.sd_show.specs.declared.procedures.Known.{Known}
 use Rattle.sd_show.specs.declared.calls.Heard.{Heard}

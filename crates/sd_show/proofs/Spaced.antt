@@ -1,8 +1,8 @@
 -- Texts of parts, a space before each.
 use Rattle.std.proofs.Common.{◌≡◌, ℕ, List, [], ◌∷◌, ◌++◌, refl, sym, ap, ◌∙◌, append_assoc}
 use Rattle.std.proofs.lemmas.List.{append-nil}
-use Rattle.sd_link.specs.Texts.{Text}
-use Rattle.sd_link.specs.Runs.{runs_text}
+use Rattle.sd_text.specs.Texts.{Text}
+use Rattle.sd_text.specs.Runs.{runs_text}
 use Rattle.sd_show.specs.Parts.{Part, exact, run, part_text, parts_text}
 use Rattle.sd_show.specs.Packing.{spaced}
 

@@ -10,7 +10,7 @@ use Rattle.sd_rpc_msg.specs.declared.message.Message.{Message}
 use Rattle.sd_rpc_msg.specs.declared.message.Message.TheVariants.{Asked, Answered}
 use Rattle.sd_rpc_msg.specs.Layout.{auth, reply, message, auth_value, outcome_value, message_value}
 use Rattle.sd_rpc_msg.specs.Laws.{IsAuth, IsOutcome, IsMessage}
-use Rattle.sd_link.specs.Texts.{Text}
+use Rattle.sd_text.specs.Texts.{Text}
 use Rattle.sd_show.specs.declared.procedures.Known.{Known}
 use Rattle.sd_show.specs.Parts.{Part, exact, run, auth_parts, BeginWith}
 use Rattle.sd_show.specs.Fields.{fields_parts}

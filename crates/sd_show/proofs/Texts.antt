@@ -12,10 +12,9 @@ use Rattle.sd_rpc_msg.specs.Layout.{message, message_value}
 use Rattle.sd_tftp.specs.Grammar.{packet_bytes}
 use Rattle.sd_rarp.specs.declared.frame.RarpFrame.{RarpFrame}
 use Rattle.sd_rarp.specs.declared.frame.RarpFrame.TheVariants.{Request, Reply}
-use Rattle.sd_link.specs.Texts.{Text, mac_text, ip_text, addr_text}
-use Rattle.sd_script.specs.Texts.{IsIp, IsAddr}
-use Rattle.sd_script.specs.Packets.{AddrFits}
-use Rattle.sd_script.proofs.ReadBack.{ip_again, addr_again}
+use Rattle.sd_text.specs.Texts.{Text, mac_text, ip_text, addr_text, IsIp, IsAddr}
+use Rattle.sd_text.specs.Packets.{AddrFits}
+use Rattle.sd_text.proofs.ReadBack.{ip_again, addr_again}
 use Rattle.sd_show.specs.Parts.{Part, mac_part, ip_part, kind_parts, BeginWith}
 use Rattle.sd_show.specs.Messages.{message_parts, datagram_parts}
 use Rattle.sd_show.specs.Shown.{IsFrame, file_parts, PacksFile, PacksMessage, PacksWords}

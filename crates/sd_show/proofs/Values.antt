@@ -6,10 +6,9 @@ use Rattle.std.proofs.lemmas.Bool.{lt-ltb, ltb-true}
 use Rattle.sd_xdr.specs.Kind.{any, flag, between, char, word, number}
 use Rattle.sd_xdr.specs.Grammar.{word_bytes, writes}
 use Rattle.sd_bootparams.specs.Layout.{ip, ip_value}
-use Rattle.sd_link.specs.Texts.{Text}
-use Rattle.sd_script.specs.declared.error.LineError.{LineError}
-use Rattle.sd_script.specs.declared.error.LineError.TheVariants.{Outside, NoMemory}
-use Rattle.sd_script.specs.Texts.{IsNumber}
+use Rattle.sd_text.specs.Texts.{Text, IsNumber}
+use Rattle.sd_text.specs.declared.error.LineError.{LineError}
+use Rattle.sd_text.specs.declared.error.LineError.TheVariants.{Outside, NoMemory}
 use Rattle.sd_show.specs.declared.fields.Leaf.{Leaf}
 use Rattle.sd_show.specs.Forms.{as_number}
 use Rattle.sd_show.specs.Shapes.{leaf_form}

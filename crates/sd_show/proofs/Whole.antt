@@ -2,7 +2,7 @@
 use Rattle.std.proofs.Common.{◌≡◌, ℕ, ◌+◌, ◌<◌, ◌≤◌, Bool, true, false, List, [], ◌∷◌, ◌++◌, length, take, drop, get_or, refl, sym, ap, ◌∙◌, eqb, append_assoc}
 use Rattle.std.proofs.lemmas.List.{append-nil, drop_more, take_more, drop_all, take_all}
 use Rattle.std.specs.Prelude.{cond}
-use Rattle.sd_link.specs.Texts.{Text}
+use Rattle.sd_text.specs.Texts.{Text}
 use Rattle.sd_show.specs.Words.{onto, depth_behind, inside_behind, is_between, words_from, words_at}
 
 -- a text before the first of the words

@@ -1,9 +1,8 @@
 -- Words for the functions that read the text of a packet of TFTP.
 use Rattle.std.specs.Prelude.{◌≡◌, ℕ, List, ◌∷◌}
 use Rattle.sd_tftp.specs.Grammar.{HasNoZero}
-use Rattle.sd_link.specs.Texts.{Text}
-use Rattle.sd_script.specs.Texts.{IsNumber}
-use Rattle.sd_script.specs.Runs.{IsRunsWithin}
+use Rattle.sd_text.specs.Texts.{Text, IsNumber}
+use Rattle.sd_text.specs.Runs.{IsRunsWithin}
 use Rattle.sd_show.specs.Forms.{longest}
 use Rattle.sd_show.specs.Saying.{IsQuoted}
 

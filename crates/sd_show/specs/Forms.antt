@@ -6,10 +6,8 @@ use Rattle.hex.specs.Hex.{encode_lower}
 use Rattle.sd_outside.specs.Bytes.{IsBytes}
 use Rattle.sd_xdr.specs.Kind.{Word, any, between, allows, Opaque, fixed, upto, auth_body, part, Kind, word, opaque, list, ◌&◌, Value, none, number, bytes, ◌⊗◌, number_of, bytes_of, first, second}
 use Rattle.sd_bootparams.specs.Layout.{ip, ip_value}
-use Rattle.sd_link.specs.Texts.{Text, ip_text}
-use Rattle.sd_link.specs.Runs.{runs_text}
-use Rattle.sd_script.specs.Texts.{IsNumber, IsIp}
-use Rattle.sd_script.specs.Runs.{IsRuns}
+use Rattle.sd_text.specs.Texts.{Text, ip_text, IsNumber, IsIp}
+use Rattle.sd_text.specs.Runs.{runs_text, IsRuns}
 
 -- ---- QUOTED
 

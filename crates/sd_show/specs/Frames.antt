@@ -4,8 +4,7 @@ use denote.Ref.{Bor}
 use Rattle.sd_outside.specs.declared.packet.Mac.{Mac}
 use Rattle.sd_rarp.specs.declared.frame.RarpFrame.{RarpFrame}
 use Rattle.sd_rarp.specs.declared.frame.RarpFrame.TheVariants.{Request, Reply}
-use Rattle.sd_link.specs.Texts.{Text}
-use Rattle.sd_script.specs.Texts.{IsMac, IsIp}
+use Rattle.sd_text.specs.Texts.{Text, IsMac, IsIp}
 
 -- what stands behind a name, or that no text of it does
 abbrev pub Follows : Text → Text → Option (Bor (List ℕ)) → Type 0

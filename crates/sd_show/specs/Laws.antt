@@ -1,10 +1,10 @@
 -- What holds of the texts of packets. The functions of src/laws.rt have these as their contracts.
 use Rattle.std.specs.Prelude.{◌≡◌, List, []}
 use Rattle.sd_outside.specs.declared.packet.Packet.{Packet}
-use Rattle.sd_link.specs.Texts.{Text}
+use Rattle.sd_text.specs.Texts.{Text}
 use Rattle.sd_show.specs.Words.{words}
 use Rattle.sd_show.specs.declared.calls.Heard.{Heard}
-use Rattle.sd_script.specs.Packets.{IsPacket}
+use Rattle.sd_text.specs.Packets.{IsPacket}
 use Rattle.sd_show.specs.declared.error.ShowError.{ShowError}
 use Rattle.sd_show.specs.Parts.{Part, parts_text, BeginWith}
 use Rattle.sd_show.specs.Shown.{Shows, Packs, IsWritten}

@@ -19,10 +19,9 @@ use Rattle.sd_rpc_msg.specs.declared.message.Message.{Message}
 use Rattle.sd_rpc_msg.specs.declared.message.Message.TheVariants.{Asked, Answered}
 use Rattle.sd_rpc_msg.specs.Layout.{message, message_value}
 use Rattle.sd_rpc_msg.specs.Laws.{IsWord, IsAuth, IsMessage}
-use Rattle.sd_link.specs.Texts.{Text}
-use Rattle.sd_script.specs.Texts.{cut, IsAddr}
-use Rattle.sd_script.specs.declared.error.LineError.{LineError}
-use Rattle.sd_script.specs.Reading.{OnOutside}
+use Rattle.sd_text.specs.Texts.{Text, cut, IsAddr}
+use Rattle.sd_text.specs.declared.error.LineError.{LineError}
+use Rattle.sd_text.specs.Answers.{OnOutside}
 use Rattle.sd_show.specs.declared.procedures.Procedure.{Procedure}
 use Rattle.sd_show.specs.declared.procedures.Known.{Known}
 use Rattle.sd_show.specs.Shown.{is_tftp}

@@ -9,9 +9,8 @@ use Rattle.sd_rpc_msg.specs.declared.message.OpaqueAuth.{OpaqueAuth}
 use Rattle.sd_tftp.specs.declared.packet.TftpPacket.{TftpPacket}
 use Rattle.sd_tftp.specs.declared.packet.TftpPacket.TheVariants as tftp
 use Rattle.sd_xdr.specs.Kind.{Value, bytes}
-use Rattle.sd_link.specs.Texts.{Text, mac_text, ip_text}
-use Rattle.sd_link.specs.Runs.{runs_text}
-use Rattle.sd_script.specs.Runs.{IsRuns}
+use Rattle.sd_text.specs.Texts.{Text, mac_text, ip_text}
+use Rattle.sd_text.specs.Runs.{runs_text, IsRuns}
 use Rattle.sd_show.specs.Forms.{Form, as_quoted, form_text, IsFormText}
 
 -- a text that stands as it is, bytes as a byte run, or a value in a form behind a text

@@ -10,7 +10,7 @@ use Rattle.sd_show.specs.declared.procedures.Procedure.{Procedure}
 use Rattle.sd_show.specs.declared.procedures.Known.{Known}
 use Rattle.sd_show.specs.declared.procedures.Known.TheVariants as known
 use Rattle.sd_show.specs.declared.fields.Field.TheVariants as fields
-use Rattle.sd_link.specs.Texts.{Text}
+use Rattle.sd_text.specs.Texts.{Text}
 use Rattle.sd_show.specs.Fields.{Fields, nothing, field, ◌⊕◌, numbered, checked}
 
 -- ---- numbers and names

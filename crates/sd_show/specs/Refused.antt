@@ -25,7 +25,7 @@ use Rattle.sd_show.specs.declared.error.Word.{Word}
 use Rattle.sd_show.specs.declared.error.Word.TheVariants.{Line, Short, Long, Rarp, Shape, TooLong, Filling, Bool, Kind, Tail, Version, Auth, Opcode, NoEnd}
 use Rattle.sd_show.specs.declared.error.ShowError.{ShowError}
 use Rattle.sd_show.specs.declared.error.ShowError.TheVariants.{Bad, NoMemory}
-use Rattle.sd_link.specs.Texts.{Text}
+use Rattle.sd_text.specs.Texts.{Text}
 use Rattle.sd_show.specs.declared.procedures.Procedure.{Procedure}
 use Rattle.sd_show.specs.declared.procedures.Known.{Known}
 use Rattle.sd_show.specs.declared.calls.Heard.{Heard}

@@ -14,8 +14,8 @@ use Rattle.sd_tftp.specs.Grammar as tftp
 use Rattle.sd_rarp.specs.declared.frame.RarpFrame.{RarpFrame}
 use Rattle.sd_rarp.specs.declared.frame.RarpFrame.TheVariants as frames
 use Rattle.sd_rarp.specs.Frame.{Spells, frame_bytes}
-use Rattle.sd_link.specs.Texts.{Text}
-use Rattle.sd_script.specs.Packets.{AddrFits}
+use Rattle.sd_text.specs.Texts.{Text}
+use Rattle.sd_text.specs.Packets.{AddrFits}
 use Rattle.sd_show.specs.declared.calls.Heard.{Heard}
 use Rattle.sd_show.specs.Words.{words}
 use Rattle.sd_show.specs.Parts.{Part, exact, tftp_parts, frame_parts, parts_text, BeginWith}

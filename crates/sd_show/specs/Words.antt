@@ -1,6 +1,6 @@
 -- The words of a text: its parts between the bytes that separate them outside quotation marks, parentheses and brackets.
 use Rattle.std.specs.Prelude.{◌≡◌, ℕ, ◌+◌, ◌-◌, ◌<◌, Bool, false, not, ◌&&◌, ◌||◌, ◌==◌, List, [], ◌∷◌, length, take, drop, Option, Some, None, if◌then◌else◌}
-use Rattle.sd_link.specs.Texts.{Text}
+use Rattle.sd_text.specs.Texts.{Text}
 
 -- a byte before the first of the words
 abbrev pub onto : ℕ → List Text → List Text

@@ -1,8 +1,8 @@
 //! The text of a packet of TFTP.
 
 ghost use Rattle.std.specs.Prelude.{◌≡◌, [], ◌∷◌, ◌++◌, OnOk};
-ghost use Rattle.sd_script.specs.Texts.{IsNumber};
-ghost use Rattle.sd_script.specs.Judging.{Takes};
+ghost use Rattle.sd_text.specs.Texts.{IsNumber};
+ghost use Rattle.sd_text.specs.Answers.{Takes};
 ghost use Rattle.sd_show.specs.Parts.{exact, quoted_part, tftp_parts};
 ghost use Rattle.sd_show.specs.Packing.{spaced, TakesParts, FileStands};
 ghost use Rattle.sd_show.specs.Files.{IsTextWord, RequestStands, BlockStands, ErrorStands};
@@ -11,7 +11,7 @@ use crate::pieces::{Words, take_next, take_number, take_runs};
 use crate::quoting::{push_quoted, read_quoted};
 use crate::showing::{push_spaced_number, push_spaced_runs, push_word};
 use sd_outside::{ByteList, NoMemory};
-use sd_script::{LineError, same_text};
+use sd_text::{LineError, same_text};
 use sd_tftp::TftpPacket;
 use std::alloc::Global;
 

@@ -1,8 +1,8 @@
 //! The text of a RARP frame.
 
 ghost use Rattle.std.specs.Prelude.{◌≡◌, [], ◌∷◌, ◌++◌, codes, IfOk, OnOk};
-ghost use Rattle.sd_link.specs.Texts.{mac_text, ip_text};
-ghost use Rattle.sd_script.specs.Judging.{Takes};
+ghost use Rattle.sd_text.specs.Texts.{mac_text, ip_text};
+ghost use Rattle.sd_text.specs.Answers.{Takes};
 ghost use Rattle.sd_show.specs.Parts.{exact, mac_part, ip_part, kind_parts, frame_parts, parts_text};
 ghost use Rattle.sd_show.specs.Frames.{Follows, NamedMac, NamedIp, MacsStand, HostStands, RequestStands, ReplyStands, FrameStands};
 ghost use Rattle.sd_show.specs.Packing.{spaced, TakesParts};
@@ -11,7 +11,7 @@ use crate::pieces::Words;
 use crate::showing::push_word;
 use sd_outside::{ByteList, Mac, NoMemory};
 use sd_rarp::RarpFrame;
-use sd_script::{LineError, ip_list, read_ip, read_mac, same_text};
+use sd_text::{LineError, ip_list, read_ip, read_mac, same_text};
 use std::alloc::Global;
 
 /// NAME=MAC

@@ -3,7 +3,7 @@
 ghost use Rattle.std.specs.Prelude.{◌≡◌, [], IsTrue, IsFalse, IfOk, IfErr, OnOk, OnErr};
 ghost use Rattle.sd_outside.specs.declared.packet.Packet.TheVariants.{Udp};
 ghost use Rattle.sd_rpc_msg.specs.Layout.{MessageFits};
-ghost use Rattle.sd_script.specs.Reading.{Reads};
+ghost use Rattle.sd_text.specs.Answers.{Reads};
 ghost use Rattle.sd_show.specs.Parts.{parts_text};
 ghost use Rattle.sd_show.specs.Messages.{datagram_parts};
 ghost use Rattle.sd_show.specs.Shown.{is_tftp_port, is_tftp, ShowsFile, ShowsMessage, Shows, Hears, Packs};
@@ -23,7 +23,7 @@ use crate::taking::LONGEST;
 use sd_outside::{Addr, ByteList, NoMemory, Packet};
 use sd_rarp::{read_frame, write_frame};
 use sd_rpc_msg::{Message, Outcome, read_message, write_message};
-use sd_script::{LineError, addr_list, same_text};
+use sd_text::{LineError, addr_list, same_text};
 use sd_tftp::{read_packet, write_packet};
 use std::alloc::Global;
 

@@ -1,8 +1,7 @@
 //! Reading the text of a message.
 
 ghost use Rattle.std.specs.Prelude.{◌≡◌, codes};
-ghost use Rattle.sd_script.specs.Reading.{Reads};
-ghost use Rattle.sd_script.specs.Judging.{Takes};
+ghost use Rattle.sd_text.specs.Answers.{Reads, Takes};
 ghost use Rattle.sd_show.specs.Packing.{TakesParts, TakesWord, BodyStands, AuthStands, IsProcedure, AskedStands, CallStands, AuthsStand, RawStands, KnownStands, RangeStands, StateStands, AcceptedStands, OutcomeStands, ReplyStands, MessageStands};
 
 use crate::pieces::{Words, take_next, take_number, take_runs};
@@ -11,7 +10,7 @@ use crate::programs::{asked, results as result_fields};
 use crate::taking::{GREATEST, LONGEST, take_fields, take_results};
 use sd_outside::ByteList;
 use sd_rpc_msg::{Call, Message, OpaqueAuth, Outcome, Reply};
-use sd_script::{LineError, Parts, only_number, same_text};
+use sd_text::{LineError, Parts, only_number, same_text};
 use sd_xdr::XdrWriter;
 use std::alloc::Global;
 
@@ -51,8 +50,8 @@ fn read_procedure(text: &[u8]) -> Result<Procedure, LineError>
     ensures { Reads (IsProcedure text.now) result }
 {
     let mut parts = Parts::new(text, b'/');
-    let prog = sd_script::take_number(&mut parts, 0, GREATEST)? as u32;
-    let vers = sd_script::take_number(&mut parts, 0, GREATEST)? as u32;
+    let prog = sd_text::take_number(&mut parts, 0, GREATEST)? as u32;
+    let vers = sd_text::take_number(&mut parts, 0, GREATEST)? as u32;
     let proc_no = only_number(parts, 0, GREATEST)? as u32;
     Ok(Procedure {
         prog,

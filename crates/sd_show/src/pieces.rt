@@ -1,14 +1,14 @@
 //! The words of a text, one after another.
 
 ghost use Rattle.std.specs.Prelude.{◌≡◌, ◌+◌, ◌^◌, ◌<◌, ◌≤◌, ◌∷◌, [], MatchOption};
-ghost use Rattle.sd_script.specs.Texts.{IsNumber, IsAddr};
-ghost use Rattle.sd_script.specs.Runs.{IsRunsWithin};
-ghost use Rattle.sd_script.specs.Judging.{Takes, TakesText, Tells};
+ghost use Rattle.sd_text.specs.Texts.{IsNumber, IsAddr};
+ghost use Rattle.sd_text.specs.Runs.{IsRunsWithin};
+ghost use Rattle.sd_text.specs.Answers.{TakesText, Takes, Tells};
 ghost use Rattle.sd_show.specs.Saying.{TakesInner};
 ghost use Rattle.sd_show.specs.Words.{words_at, item_words, depth_behind, inside_behind, is_between, EndsAt};
 
 use sd_outside::{Addr, ByteList};
-use sd_script::{LineError, read_addr, read_number, read_runs_within};
+use sd_text::{LineError, read_addr, read_number, read_runs_within};
 use std::alloc::Global;
 use std::marker::Model;
 

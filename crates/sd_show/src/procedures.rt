@@ -1,10 +1,10 @@
 //! The procedures of the programs that are known by name.
 
 ghost use Rattle.std.specs.Prelude.{◌≡◌, ◌↔◌, IsTrue};
-ghost use Rattle.sd_script.specs.Reading.{Finds};
+ghost use Rattle.sd_text.specs.Answers.{Finds};
 ghost use Rattle.sd_show.specs.Programs.{all_known, numbers, known_text};
 
-use sd_script::same_text;
+use sd_text::same_text;
 
 /// What a call asks for.
 #[derive(Clone, Copy, Debug, PartialEq, Eq)]

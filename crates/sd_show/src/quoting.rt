@@ -2,13 +2,13 @@
 
 ghost use Rattle.std.specs.Prelude.{◌≡◌, ◌<◌, [], ◌∷◌, ◌++◌, false, codes, slice_index, OnOk};
 ghost use Rattle.hex.specs.Hex.{encode_lower};
-ghost use Rattle.sd_script.specs.Reading.{Finds, Reads};
+ghost use Rattle.sd_text.specs.Answers.{Finds, Reads};
 ghost use Rattle.sd_show.specs.Forms.{is_plain, quoted_byte, quoted};
 ghost use Rattle.sd_show.specs.Saying.{IsQuoted, BeginsWith};
 
 use crate::pieces::between;
 use sd_outside::{ByteList, NoMemory};
-use sd_script::LineError;
+use sd_text::LineError;
 use std::alloc::Global;
 
 /// Whether a byte stands for itself.

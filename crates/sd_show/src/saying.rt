@@ -13,7 +13,7 @@ use crate::fields::{Field, Leaf, Row, Shape};
 use crate::programs::ResultFields;
 use crate::quoting::push_quoted;
 use sd_outside::{ByteList, NoMemory};
-use sd_script::{ip_list, push_number, write_runs};
+use sd_text::{ip_list, push_number, write_runs};
 use sd_xdr::{MsgError, XdrReader};
 use std::alloc::Global;
 

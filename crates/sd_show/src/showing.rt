@@ -2,7 +2,7 @@
 
 ghost use Rattle.std.specs.Prelude.{◌≡◌, [], ◌∷◌, ◌++◌, codes, OnOk};
 ghost use Rattle.std.specs.Fmt.{decimal};
-ghost use Rattle.sd_link.specs.Runs.{runs_text};
+ghost use Rattle.sd_text.specs.Runs.{runs_text};
 ghost use Rattle.sd_show.specs.Parts.{exact, auth_parts, procedure_text};
 ghost use Rattle.sd_rpc_msg.specs.declared.message.Outcome.TheVariants.{Success};
 ghost use Rattle.sd_rpc_msg.specs.declared.message.Message.TheVariants.{Answered};
@@ -18,7 +18,7 @@ use crate::programs::{asked, results as result_fields};
 use crate::saying::{say_fields, say_results};
 use sd_outside::{ByteList, NoMemory};
 use sd_rpc_msg::{Call, Message, OpaqueAuth, Outcome, Reply};
-use sd_script::{push_number, write_runs};
+use sd_text::{push_number, write_runs};
 use sd_xdr::{MsgError, XdrReader};
 use std::alloc::Global;
 

@@ -12,7 +12,7 @@ use crate::pieces::{Words, between, take_end, take_next};
 use crate::programs::ResultFields;
 use crate::quoting::read_quoted;
 use sd_outside::ByteList;
-use sd_script::{LineError, read_ip, read_number, read_runs_within, same_text};
+use sd_text::{LineError, read_ip, read_number, read_runs_within, same_text};
 use sd_xdr::XdrWriter;
 use std::alloc::Global;
 

@@ -7,7 +7,7 @@ use super::*;
 use messages::MESSAGES;
 use rows::{ANSWERED, NO_TEXTS, PACKED, REFUSED, SHOWN, WRITTEN};
 use sd_outside::{ByteList, Packet};
-use sd_script::{read_packet_line, write_packet_line};
+use sd_text::{read_packet_line, write_packet_line};
 use std::alloc::Global;
 use std::test::Fail;
 

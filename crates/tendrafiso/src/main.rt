@@ -6,13 +6,20 @@ use sd_outside::NoMemory;
 use std::io;
 use std::process::ExitCode;
 
-/// The words of the command line, without the program's name.
+/// The words of the command line, without the program's name. One that isn't UTF-8 makes them unknown words: there are none.
 fn words(rt: &HostRuntime) -> Result<Vec<Text>, NoMemory> {
     let mut words = Vec::new(rt.alloc());
-    if let Ok(all) = std::env::args(rt) {
-        for word in all.skip(1) {
-            words.push(Text::new(rt.alloc(), word.as_str())?)?;
+    let all = match std::env::args(rt) {
+        Ok(all) => all,
+        Err(error) => {
+            if error.kind() == io::ErrorKind::OutOfMemory {
+                return Err(NoMemory);
+            }
+            return Ok(words);
         }
+    };
+    for word in all.skip(1) {
+        words.push(Text::new(rt.alloc(), word.as_str())?)?;
     }
     Ok(words)
 }

@@ -1,13 +1,12 @@
 ghost use Rattle.std.specs.Prelude.{◌≡◌, []};
-ghost use Rattle.sd_script.specs.Judging.{Judges, Tells};
+ghost use Rattle.sd_script.specs.Judging.{Judges};
+ghost use Rattle.sd_text.specs.Answers.{Tells};
 ghost use Rattle.sd_script.specs.Lines.{AddsCommand, MayBeCommand, AddrLine, BootLine, WaitCommandLine};
 
 use crate::draft::{Draft, Section};
-use crate::error::LineError;
-use crate::fields::{only_number, take_end};
 use crate::limits::COMMAND_LIMIT;
-use crate::parts::Parts;
 use sd_config::Command;
+use sd_text::{LineError, Parts, only_number, take_end};
 
 /// The next line may be a command line.
 fn may_be_command(section: Section) -> Result<(), LineError>

@@ -4,15 +4,13 @@ ghost use Rattle.sd_script.specs.Judging.{Judges};
 ghost use Rattle.sd_script.specs.Lines.{ArchLine, HostLine, MayAddHost, RootLine, KernelLine, SwapFileLine, MayBeRoot, MayBeSwap};
 
 use crate::draft::{Draft, Section};
-use crate::error::LineError;
-use crate::fields::{take_end, take_ip, take_name, take_number, take_path};
+use crate::fields::{take_name, take_path};
 use crate::limits::HOST_COUNT;
 use crate::lines::heading::in_section;
-use crate::parts::Parts;
-use crate::values::same_text;
 use sd_bootparams::Host;
 use sd_config::{Config, SwapLine};
 use sd_outside::ByteList;
+use sd_text::{LineError, Parts, same_text, take_end, take_ip, take_number};
 use std::alloc::Global;
 
 /// `arch NAME`

@@ -1,14 +1,11 @@
 ghost use Rattle.std.specs.Prelude.{IsTrue, ◌↔◌};
-ghost use Rattle.sd_script.specs.Reading.{Reads};
-ghost use Rattle.sd_script.specs.Judging.{Judges, ReadsDelay, Tells};
+ghost use Rattle.sd_text.specs.Answers.{Reads, Tells};
+ghost use Rattle.sd_script.specs.Judging.{Judges, ReadsDelay};
 ghost use Rattle.sd_script.specs.Lines.{FateLine, MayAddFate, MayBeEvent, IsDelays};
 
 use crate::draft::{Draft, Section};
-use crate::error::LineError;
-use crate::fields::{take_end, take_number};
-use crate::parts::Parts;
-use crate::values::{read_number, same_text};
 use sd_config::{Fate, TickList};
+use sd_text::{LineError, Parts, read_number, same_text, take_end, take_number};
 use std::alloc::Global;
 
 /// The next line may be an event line.

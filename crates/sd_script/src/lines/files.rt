@@ -4,17 +4,15 @@ ghost use Rattle.sd_script.specs.Judging.{Judges};
 ghost use Rattle.sd_script.specs.Lines.{TftpLine, FileLine, LinkLine, HasRoom, MayAddBootFile, MayAddItem};
 
 use crate::draft::{Draft, Section};
-use crate::error::LineError;
-use crate::fields::{take_end, take_name, take_path, take_runs, take_target};
+use crate::fields::{take_name, take_path, take_target};
 use crate::limits::{
     ALL_FILES_LIMIT, BOOT_FILE_COUNT, BOOT_FILE_LIMIT, ROOT_FILE_LIMIT, ROOT_ITEM_COUNT,
 };
 use crate::lines::heading::in_section;
-use crate::parts::Parts;
 use crate::paths::are_apart;
-use crate::values::same_text;
 use sd_config::{BootFile, RootItem};
 use sd_outside::ByteList;
+use sd_text::{LineError, Parts, same_text, take_end, take_runs};
 use std::alloc::Global;
 
 /// Whether files may have so many bytes more.

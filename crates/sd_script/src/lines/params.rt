@@ -4,12 +4,11 @@ ghost use Rattle.sd_script.specs.Judging.{Judges, TakesRest};
 ghost use Rattle.sd_script.specs.Lines.{ParamsLine};
 
 use crate::draft::{Draft, Section};
-use crate::error::LineError;
 use crate::limits::PARAMS_COUNT;
 use crate::lines::heading::in_section;
-use crate::parts::Parts;
 use sd_bootparams::{ParamsError, read_line};
 use sd_outside::ByteList;
+use sd_text::{LineError, Parts};
 use std::alloc::Global;
 
 /// The rest of a line.

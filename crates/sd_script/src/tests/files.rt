@@ -1,7 +1,8 @@
+use crate::read_script;
 use crate::tests::scripts::{push_line, refused, with_line};
-use crate::{push_number, read_script, write_runs};
 use sd_config::{Config, RootItem};
 use sd_outside::{ByteList, NoMemory};
+use sd_text::{push_number, write_runs};
 use std::test::Fail;
 
 /// A whole boot, behind the heading.

@@ -1,5 +1,6 @@
-use crate::{RunsError, read_runs, write_runs};
+use crate::{RunsError, read_runs};
 use sd_outside::{ByteList, NoMemory};
+use sd_text::write_runs;
 use std::test::Fail;
 
 /// Six pairs of digits, with a dot before each whose bit is set, but the first.

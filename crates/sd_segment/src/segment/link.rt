@@ -1,10 +1,10 @@
 //! A segment as the client's link.
-ghost use Rattle.std.specs.Prelude.{◌≡◌, ◌⊎◌, ◌≤◌, ◌<◌, IsTrue, OnOk, OnErr, IfErr, Some, None, Ok, Err};
-ghost use Rattle.sd_link.specs.Link.{Moves, Sends, Receives, LinkCause, Counts, last_tick, Drains, IsBounded};
+ghost use Rattle.std.specs.Prelude.{◌≡◌, ◌⊎◌, ◌≤◌, ◌<◌, IsTrue, IsErr, OnOk, OnErr, IfErr, Some, None, Ok, Err};
+ghost use Rattle.sd_link.specs.Link.{Moves, Sends, Receives, LinkCause, Counts, last_tick, Drains, IsReached, IsAtRest};
 ghost use Rattle.sd_link.specs.Steps.{whole_record};
 ghost use Rattle.sd_link.specs.Printing.{record_text};
 ghost use Rattle.sd_link.specs.declared.link.LinkError.TheVariants as refused;
-ghost use Rattle.sd_segment.specs.Segment.{history_of, text_drained};
+ghost use Rattle.sd_segment.specs.Segment.{history_of, text_drained, Rests};
 
 use crate::printing::lines_of;
 use crate::segment::Segment;
@@ -32,7 +32,7 @@ impl Link for Segment {
     /// Sends a packet. It never fails, and a refused call changes nothing.
     fn send(&mut self, packet: &Packet) -> Result<(), LinkError>
         ensures told { Moves (Some (history_of self.old)) (Some (history_of self.new)) (Sends packet.now result) }
-        ensures bounded { IsBounded (history_of self.new) }
+        ensures world { IsReached (history_of self.new) }
         ensures later { self.old.tick ≤ self.new.tick }
         ensures cause { LinkCause self.old.faults self.new.faults result }
         ensures handed { self.new.handed ≡ self.old.handed }
@@ -57,7 +57,7 @@ impl Link for Segment {
     /// Waits for a packet, until this tick at most.
     fn recv(&mut self, until: u64) -> Result<Option<Packet>, LinkError>
         ensures told { Moves (Some (history_of self.old)) (Some (history_of self.new)) (Receives until result) }
-        ensures bounded { IsBounded (history_of self.new) }
+        ensures world { IsReached (history_of self.new) }
         ensures later { self.old.tick ≤ self.new.tick }
         ensures reached { result ≡ Ok None → until ≤ self.new.tick }
         ensures cause { LinkCause self.old.faults self.new.faults result }
@@ -67,6 +67,9 @@ impl Link for Segment {
         // It fails where it would need a tick past the last one, and counts no other fault.
         ensures late { result ≡ Err refused.Failed → (self.new.tick ≡ last_tick) × (last_tick < until) }
         ensures calm { (result ≡ Err refused.Failed) ⊎ (self.new.faults ≡ self.old.faults) }
+
+        // Whatever came of the waiting, the server did all that is due to it at that tick.
+        ensures rests { OnOk result (Rests self.new) }
 
         // Once it found no memory, nothing is sent and nothing is received.
         ensures stops { result ≡ Err refused.NoMemory → IsTrue self.new.broken }
@@ -86,16 +89,42 @@ impl Link for Segment {
         }
     }
 
-    /// Appends the lines of the record since the last drain. A refused call changes nothing.
+    /// Appends the lines of the record since the last drain. A refused call changes nothing. Once a receive found no memory, the
+    /// rest of its tick is lost, and no record is whole.
     fn drain(&mut self, text: &mut ByteList) -> Result<(), NoMemory>
         ensures told { history_of self.new ≡ history_of self.old }
         ensures text { OnOk result (Drains (text_drained self.old) (text_drained self.new) text.old text.new) }
         ensures err { OnErr result (text_drained self.new ≡ text_drained self.old) }
         ensures whole { OnOk result (text_drained self.new ≡ record_text (whole_record (history_of self.new))) }
+        ensures rests { OnOk result (IsAtRest (history_of self.new)) }
+        ensures world { IsReached (history_of self.new) }
         ensures clock { self.new.tick ≡ self.old.tick }
         ensures faults { self.new.faults ≡ self.old.faults }
         ensures handed { self.new.handed ≡ self.old.handed }
 
+        ensures stopped { IsTrue self.old.broken → IsErr result }
+        ensures refused { OnErr result ((self.new ≡ self.old) × (text.new ≡ text.old)) }
+    {
+        if !self.is_ready() {
+            return Err(NoMemory);
+        }
+        self.append(text)
+    }
+}
+
+impl Segment {
+    /// Appends the lines of the record since the last drain, once the server is done with this tick.
+    fn append(&mut self, text: &mut ByteList) -> Result<(), NoMemory>
+        requires ready { Rests self.old }
+        ensures told { history_of self.new ≡ history_of self.old }
+        ensures text { OnOk result (Drains (text_drained self.old) (text_drained self.new) text.old text.new) }
+        ensures err { OnErr result (text_drained self.new ≡ text_drained self.old) }
+        ensures whole { OnOk result (text_drained self.new ≡ record_text (whole_record (history_of self.new))) }
+        ensures rests { OnOk result (IsAtRest (history_of self.new)) }
+        ensures world { IsReached (history_of self.new) }
+        ensures clock { self.new.tick ≡ self.old.tick }
+        ensures faults { self.new.faults ≡ self.old.faults }
+        ensures handed { self.new.handed ≡ self.old.handed }
         ensures refused { OnErr result ((self.new ≡ self.old) × (text.new ≡ text.old)) }
     {
         let lines = lines_of(

@@ -150,6 +150,7 @@ impl Segment {
         requires ready { Rests self.old }
         requires next { slice_get self.old.to_client 0 ≡ Some id }
         ensures ok { IfOk result (λ packet. Passes self.old self.new (Get id packet ∷ [])) }
+        ensures rests { OnOk result (Rests self.new) }
         ensures err { OnErr result (self.new ≡ self.old) }
         ensures tick { self.new.tick ≡ self.old.tick }
         ensures handed { OnOk result (self.new.handed ≡ max self.old.handed (min (self.old.handed + 1) (2 ^ 64 - 1))) }

@@ -1,7 +1,7 @@
 //! Time goes on until a packet comes to the client.
 ghost use Rattle.std.specs.Prelude.{◌≡◌, ◌⊎◌, ◌+◌, ◌-◌, ◌^◌, ◌≤◌, ◌<◌, [], length, min, max, true, OnOk, OnErr, IfOk, IfSome, List, Some, None, Ok, Err};
 ghost use Rattle.sd_outside.specs.Causes.{Rose};
-ghost use Rattle.sd_link.specs.Link.{Moves, Receives, LinkCause, Counts, last_tick, IsBounded};
+ghost use Rattle.sd_link.specs.Link.{Moves, Receives, LinkCause, Counts, last_tick, IsReached};
 ghost use Rattle.sd_link.specs.Steps.{Step};
 ghost use Rattle.sd_link.specs.declared.link.LinkError.TheVariants as refused;
 ghost use Rattle.sd_segment.specs.Segment.{history_of, text_drained, Rests};
@@ -20,9 +20,10 @@ impl Segment {
     pub(crate) fn hand_out(&mut self) -> Result<Option<Packet>, NoMemory>
         requires ready { Rests self.old }
         ensures got { IfOk result (HandsOut self.old self.new) }
+        ensures rests { OnOk result (Rests self.new) }
         ensures err { OnErr result (self.new ≡ self.old) }
         ensures tick { self.new.tick ≡ self.old.tick }
-        ensures bounded { IsBounded (history_of self.old) → IsBounded (history_of self.new) }
+        ensures bounded { IsReached (history_of self.old) → IsReached (history_of self.new) }
         ensures handed { IfOk result (λ o. IfSome o (λ packet. self.new.handed ≡ max self.old.handed (min (self.old.handed + 1) (2 ^ 64 - 1)))) }
     {
         match self.next_to_client() {
@@ -102,7 +103,7 @@ impl Segment {
         ensures ready { OnOk result (Rests self.new) }
         ensures tick { OnOk result (self.new.tick ≡ self.old.tick + 1) }
         ensures later { self.old.tick ≤ self.new.tick }
-        ensures bounded { IsBounded (history_of self.old) → IsBounded (history_of self.new) }
+        ensures bounded { IsReached (history_of self.old) → IsReached (history_of self.new) }
         ensures handed { self.new.handed ≡ self.old.handed }
     {
         self.pass()?;
@@ -130,9 +131,9 @@ impl Segment {
     /// Waits for a packet until this tick.
     pub(crate) fn receive(&mut self, until: u64) -> Result<Option<Packet>, LinkError>
         requires ready { Rests self.old }
-        requires bounded { IsBounded (history_of self.old) }
+        requires bounded { IsReached (history_of self.old) }
         ensures told { Moves (Some (history_of self.old)) (Some (history_of self.new)) (Receives until result) }
-        ensures bounded { IsBounded (history_of self.new) }
+        ensures bounded { IsReached (history_of self.new) }
         ensures drained { text_drained self.new ≡ text_drained self.old }
         ensures later { self.old.tick ≤ self.new.tick }
         ensures reached { result ≡ Ok None → until ≤ self.new.tick }
@@ -140,6 +141,7 @@ impl Segment {
         ensures handed { Counts self.old.handed self.new.handed result }
         ensures late { result ≡ Err refused.Failed → (self.new.tick ≡ last_tick) × (last_tick < until) }
         ensures calm { (result ≡ Err refused.Failed) ⊎ (self.new.faults ≡ self.old.faults) }
+        ensures rests { OnOk result (Rests self.new) }
     {
         'waiting: loop {
             match self.hand_out() {

@@ -1,5 +1,5 @@
 use Rattle.std.proofs.Common.{◌+◌, ◌++◌, ◌∙◌, ap, sym, subst}
-use Rattle.sd_link.specs.Texts.{Text}
+use Rattle.sd_text.specs.Texts.{Text}
 use Rattle.sd_script.proofs.ScriptLemmas.{IsNextLine}
 use Rattle.sd_boot.proofs.Turning.{IsSoFar, pushed, so_far_goes_on}
 use Rattle.sd_boot.proofs.packet_texts.translated.Goals as goal

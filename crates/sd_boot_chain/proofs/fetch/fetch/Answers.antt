@@ -110,7 +110,7 @@ returns-in-Answer-Over-clause-file g c =
     moves_weaker _ _ _ (GivesFile (fetch_of c.args.fetch.now) (came.TooLarge c.in-Answer-Over.got)) (λ old part w. tt) (returns-in-Answer-Over-clause-lasts g c)
 
 pub returns-in-Fault-clause-told : goal.returns-in-Fault-clause-told
-returns-in-Fault-clause-told g c = moves_weaker _ _ _ (λ old part. CameOf (fetch_of c.args.fetch.now) came.Fault part) (λ old part w. tt) (returns-in-Fault-clause-lasts g c)
+returns-in-Fault-clause-told g c = moves_weaker _ _ _ (CameOf (fetch_of c.args.fetch.now) came.Fault) (λ old part w. tt) (returns-in-Fault-clause-lasts g c)
 
 pub returns-in-Fault-clause-file : goal.returns-in-Fault-clause-file
 returns-in-Fault-clause-file g c = moves_weaker _ _ _ (GivesFile (fetch_of c.args.fetch.now) came.Fault) (λ old part w. tt) (returns-in-Fault-clause-lasts g c)
@@ -152,7 +152,7 @@ returns-then-last-clause-told g c =
     let last = has_last f _ _ _ r s to n c.loop-count.invariant.moves (asks_next f _ _ _ _ r s _ (asked.Answer (moves.Block to n true)) c.loop-count.invariant.request refl answer c.in_ok-to.ensures.told) in
     IfOk-weaker c.finish.result
     (λ came. Moves (g.L.Link.told c.ask.new.link) (g.L.Link.told c.finish.new.link) (Finishes c.in_ok-request-in-Answer-Block.request s came))
-    (λ came. Moves (g.L.Link.told c.args.link.now) (g.L.Link.told c.finish.new.link) (λ old part. CameOf f came part))
+    (λ came. Moves (g.L.Link.told c.args.link.now) (g.L.Link.told c.finish.new.link) (CameOf f came))
     (λ came m. came_last f _ _ _ s to n c.in_ok-request-in-Answer-Block.request came c.in_ok-request-in-Answer-Block.ensures last m)
     c.finish.ensures.told
 
@@ -160,7 +160,7 @@ pub returns-then-last-clause-file : goal.returns-then-last-clause-file
 returns-then-last-clause-file g c =
     let f = fetch_of c.args.fetch.now in
     IfOk-weaker c.finish.result
-    (λ came. Moves (g.L.Link.told c.args.link.now) (g.L.Link.told c.finish.new.link) (λ old part. CameOf f came part))
+    (λ came. Moves (g.L.Link.told c.args.link.now) (g.L.Link.told c.finish.new.link) (CameOf f came))
     (λ came. Moves (g.L.Link.told c.args.link.now) (g.L.Link.told c.finish.new.link) (GivesFile f came))
     (λ came m. gives_file f came _ _ c.requires.name m)
     (returns-then-last-clause-told g c)

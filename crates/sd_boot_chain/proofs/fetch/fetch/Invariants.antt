@@ -1,5 +1,5 @@
 use Rattle.std.proofs.Common.{◌≡◌, ◌≤◌, ◌<◌, ◌*◌, length, false}
-use Rattle.sd_link.specs.Link.{Moves}
+use Rattle.sd_link.specs.Link.{Moves, IsSettledBy}
 use Rattle.sd_claims.specs.Fetching.{Takes, request_of}
 use Rattle.sd_rpc_retry.specs.Lasting.{Lasts}
 use Rattle.sd_boot_chain.specs.Fetch.{fetch_of}
@@ -7,7 +7,7 @@ use Rattle.sd_boot_chain.proofs.fetch.fetch.Given as goal
 
 abbrev pub invariant-loop-count : goal.invariant-loop-count
 invariant-loop-count g l = record {
-  moves : Moves (g.L.Link.told l.initial.link) (g.L.Link.told l.link) (λ old part. Takes (fetch_of l.fetch) part l.receiver);
+  moves : Moves (g.L.Link.told l.initial.link) (g.L.Link.told l.link) (λ old part. Takes (IsSettledBy old) (fetch_of l.fetch) part l.receiver);
   request : l.request ≡ request_of (fetch_of l.fetch) l.receiver;
   server : l.receiver.server ≡ l.fetch.server;
   going : l.receiver.ended ≡ false;

@@ -1,20 +1,27 @@
 use Rattle.std.proofs.Common.{List, ℕ, Result, Ok, Err, ◌∙◌, ap, subst, arith}
 use Rattle.std.specs.Prelude.{codes}
 use Rattle.std.proofs.lemmas.Result.{err_from_is_err_and}
-use Rattle.sd_link.specs.Link.{Moves}
+use Rattle.sd_link.specs.Link.{Moves, IsSettledBy}
 use Rattle.sd_config.specs.declared.stage.Stage.TheVariants as stage
-use Rattle.sd_rpc_retry.specs.declared.calling.Answer.TheVariants as answers
 use Rattle.sd_rpc_retry.specs.Lasting.{most_asking_ticks}
 use Rattle.sd_rpc_retry.proofs.Lasting.{lasts_then}
-use Rattle.sd_claims.specs.Booting.{AfterCall, CallTold, whoami_call, getfile_call, getport_call}
+use Rattle.sd_claims.specs.Booting.{whoami_call, getfile_call, getport_call}
 use Rattle.sd_boot_chain.specs.Durations.{most_calls_ticks}
 use Rattle.sd_boot_chain.specs.declared.root.Unanswered.{Unanswered}
-use Rattle.sd_boot_chain.specs.Root.{HasNoAnswer, LeadsTo}
-use Rattle.sd_boot_chain.proofs.Rooting.{after_answer, calls_stop}
+use Rattle.sd_boot_chain.specs.Root.{HasNoAnswer, Places}
+use Rattle.sd_boot_chain.proofs.Rooting.{stops_at, ends_with_port, after_whoami, after_getfile}
 use Rattle.sd_boot_chain.proofs.root.find_mount.Goals as goal
 
 error_of : Unanswered → Result ℕ Unanswered
 error_of why = Err why
+
+pub returns-in_err-named-clause-told : goal.returns-in_err-named-clause-told
+unfolding error_of
+returns-in_err-named-clause-told g c =
+    let caller = c.args.caller.now in
+    let why = c.in_err-named.field-0.0 in
+    let p = err_from_is_err_and c.from_residual.result c.from_residual.ensures.1 in
+    stops_at (g.L.Link.told c.args.link.now) (g.L.Link.told c.whoami.new.link) stage.Whoami caller (whoami_call caller.ip) c.from_residual.result why (p.1 ∙ ap error_of p.2) c.in_err-named.ensures.step c.in_err-named.ensures.told
 
 pub returns-in_err-server-clause-told : goal.returns-in_err-server-clause-told
 unfolding error_of
@@ -25,10 +32,12 @@ returns-in_err-server-clause-told g c =
     let new = g.L.Link.told c.getfile.new.link in
     let named = c.in_ok-named.named in
     let why = c.in_err-server.field-0.0 in
-    let p = err_from_is_err_and c.from_residual-in_err-server.result c.from_residual-in_err-server.ensures.1 in
-    let second = subst (λ (key : List ℕ). Moves mid new (λ h part. HasNoAnswer why.error c.whoami.new.caller (getfile_call named.from named.client key) part)) c.requires.root c.in_err-server.ensures.told in
-    calls_stop old new caller c.from_residual-in_err-server.result why stage.Getfile (p.1 ∙ ap error_of p.2) c.in_err-server.ensures.step
-    (after_answer old mid new caller c.whoami.new.caller (whoami_call caller.ip) (getfile_call named.from named.client (codes "root")) (HasNoAnswer why.error) c.whoami.ensures.xid c.in_ok-named.ensures.told second)
+    let found = c.from_residual-in_err-server.result in
+    let call = getfile_call named.from named.client (codes "root") in
+    let p = err_from_is_err_and found c.from_residual-in_err-server.ensures.1 in
+    let second = subst (λ (key : List ℕ). Moves mid new (λ h part. HasNoAnswer why.error (IsSettledBy h) c.whoami.new.caller (getfile_call named.from named.client key) part)) c.requires.root c.in_err-server.ensures.told in
+    after_whoami old mid new caller c.whoami.new.caller (whoami_call caller.ip) named.from named.client found c.whoami.ensures.xid c.in_ok-named.ensures.told
+    (stops_at mid new stage.Getfile c.whoami.new.caller call found why (p.1 ∙ ap error_of p.2) c.in_err-server.ensures.step second)
 
 pub returns-in_err-server-clause-lasts : goal.returns-in_err-server-clause-lasts
 returns-in_err-server-clause-lasts g c = lasts_then _ _ _ most_asking_ticks most_asking_ticks most_calls_ticks (omega arith) c.whoami.ensures.lasts c.getfile.ensures.lasts
@@ -44,12 +53,13 @@ returns-in_err-port-clause-told g c =
     let named = c.in_ok-named.named in
     let server = c.in_ok-server.server in
     let why = c.in_err-port.field-0.0 in
+    let found = c.from_residual-in_err-port.result in
     let call = getfile_call named.from named.client (codes "root") in
-    let p = err_from_is_err_and c.from_residual-in_err-port.result c.from_residual-in_err-port.ensures.1 in
-    let second = subst (λ (key : List ℕ). Moves mid late (λ h part. LeadsTo (getport_call server) c.whoami.new.caller (getfile_call named.from named.client key) part)) c.requires.root c.in_ok-server.ensures.told in
-    let more = after_answer mid late new c.whoami.new.caller c.getfile.new.caller call (getport_call server) (HasNoAnswer why.error) c.getfile.ensures.xid second c.in_err-port.ensures.told in
-    calls_stop old new caller c.from_residual-in_err-port.result why stage.Getport (p.1 ∙ ap error_of p.2) c.in_err-port.ensures.step
-    (after_answer old mid new caller c.whoami.new.caller (whoami_call caller.ip) call (AfterCall (HasNoAnswer why.error)) c.whoami.ensures.xid c.in_ok-named.ensures.told more)
+    let p = err_from_is_err_and found c.from_residual-in_err-port.ensures.1 in
+    let second = subst (λ (key : List ℕ). Moves mid late (λ h part. Places server (IsSettledBy h) c.whoami.new.caller (getfile_call named.from named.client key) part)) c.requires.root c.in_ok-server.ensures.told in
+    after_whoami old mid new caller c.whoami.new.caller (whoami_call caller.ip) named.from named.client found c.whoami.ensures.xid c.in_ok-named.ensures.told
+    (after_getfile mid late new c.whoami.new.caller c.getfile.new.caller call server found c.getfile.ensures.xid second
+    (stops_at late new stage.Getport c.getfile.new.caller (getport_call server) found why (p.1 ∙ ap error_of p.2) c.in_err-port.ensures.step c.in_err-port.ensures.told))
 
 pub returns-in_err-port-clause-lasts : goal.returns-in_err-port-clause-lasts
 returns-in_err-port-clause-lasts g c =
@@ -64,11 +74,11 @@ returns-clause-told g c =
     let new = g.L.Link.told c.getport.new.link in
     let named = c.in_ok-named.named in
     let server = c.in_ok-server.server in
-    let tells = CallTold (Ok (answers.Port c.in_ok-port.port)) in
     let call = getfile_call named.from named.client (codes "root") in
-    let second = subst (λ (key : List ℕ). Moves mid late (λ h part. LeadsTo (getport_call server) c.whoami.new.caller (getfile_call named.from named.client key) part)) c.requires.root c.in_ok-server.ensures.told in
-    let more = after_answer mid late new c.whoami.new.caller c.getfile.new.caller call (getport_call server) tells c.getfile.ensures.xid second c.in_ok-port.ensures.told in
-    after_answer old mid new caller c.whoami.new.caller (whoami_call caller.ip) call (AfterCall tells) c.whoami.ensures.xid c.in_ok-named.ensures.told more
+    let second = subst (λ (key : List ℕ). Moves mid late (λ h part. Places server (IsSettledBy h) c.whoami.new.caller (getfile_call named.from named.client key) part)) c.requires.root c.in_ok-server.ensures.told in
+    after_whoami old mid new caller c.whoami.new.caller (whoami_call caller.ip) named.from named.client (Ok c.in_ok-port.port) c.whoami.ensures.xid c.in_ok-named.ensures.told
+    (after_getfile mid late new c.whoami.new.caller c.getfile.new.caller call server (Ok c.in_ok-port.port) c.getfile.ensures.xid second
+    (ends_with_port late new c.getfile.new.caller (getport_call server) c.in_ok-port.port c.in_ok-port.ensures.told))
 
 pub returns-clause-lasts : goal.returns-clause-lasts
 returns-clause-lasts g c =

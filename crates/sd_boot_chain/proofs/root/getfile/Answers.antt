@@ -1,12 +1,10 @@
-use Rattle.std.proofs.Common.{refl}
 use Rattle.sd_rpc_retry.specs.declared.calling.Ask.TheVariants as asks
-use Rattle.sd_rpc_retry.specs.declared.calling.Answer.TheVariants as answers
-use Rattle.sd_claims.specs.Booting.{portmapper, getport_call}
-use Rattle.sd_boot_chain.proofs.Rooting.{leads_to}
+use Rattle.sd_claims.specs.Booting.{portmapper}
+use Rattle.sd_boot_chain.proofs.Rooting.{placed_by}
 use Rattle.sd_boot_chain.proofs.root.getfile.Goals as goal
 
 pub returns-clause-told : goal.returns-clause-told
 returns-clause-told g c =
     let told = c.in-Getfile in
-    leads_to (g.L.Link.told c.args.link.now) (g.L.Link.told c.ask_at.new.link) c.args.caller.now c.portmapper-dst.result (portmapper c.args.named.from) (asks.Getfile c.args.named.client c.args.key)
-    c.in_ok-answer.answer (answers.Getfile told.from told.server told.ip told.path) (getport_call told.ip) c.portmapper-dst.ensures told.is refl c.in_ok-answer.ensures.told
+    placed_by (g.L.Link.told c.args.link.now) (g.L.Link.told c.ask_at.new.link) c.args.caller.now c.portmapper-dst.result (portmapper c.args.named.from) (asks.Getfile c.args.named.client c.args.key)
+    c.in_ok-answer.answer told.from told.server told.ip told.path c.portmapper-dst.ensures told.is c.in_ok-answer.ensures.told

@@ -23,10 +23,10 @@ loop-command-init g c =
     let client = c.args.client.now in
     record {
       config = refl;
-      done = λ quiet. moves_not _ (λ a part. IsFor a.config client.config → SessionAt [] before before client a part) (λ h is_for. session_first before client h c.requires.fresh);
+      done = λ all quiet. moves_not _ (λ a part. IsFor a.config client.config → SessionAt [] before before client a part) (λ h is_for. session_first before client h c.requires.fresh);
       calls = omega (arith, c.requires.fresh.1);
       lasts = lasts_none _ 0;
-      drained = c.requires.drained;
+      drained = λ all. all;
       faults = omega arith;
       sink_faults = refl;
     }
@@ -51,8 +51,8 @@ loop-command-preserved g c =
     let more : take (i + 1) commands ≡ take i commands ++ command ∷ [] = take_more commands i Addr (omega arith) in
     record {
       config = c.text_of.ensures.same ∙ same;
-      done = λ quiet.
-          let was = c.loop-command.invariant.done (λ rose. quiet (omega (arith, rose, c.text_of.ensures.faults))) in
+      done = λ all quiet.
+          let was = c.loop-command.invariant.done all (λ rose. quiet (omega (arith, rose, c.text_of.ensures.faults))) in
           let stepped = c.in_ok-text.ensures.done (λ rose. quiet (omega (arith, rose, c.loop-command.invariant.faults))) in
           let next = c.text_of.new.client in
           moves_then old mid new
@@ -62,10 +62,10 @@ loop-command-preserved g c =
           (λ a b xs ys goes s t is_for. subst (λ (l : List Command). SessionAt l before now next a (xs ++ ys)) (sym more)
           (session_more client (take i commands) command before so_far drained text next a b xs ys goes (subst (λ (k : ClientConfig). IsFor a.config k) (sym same) is_for) (s is_for) t.0 t.1 now wrote))
           was
-          (moves_from mid new (IsStep client command drained text next) (λ b. drained ≡ record_text (whole_record b)) c.loop-command.invariant.drained stepped);
+          (moves_from mid new (IsStep client command drained text next) (λ b. drained ≡ record_text (whole_record b)) (c.loop-command.invariant.drained all) stepped);
       calls = omega (arith, c.text_of.ensures.calls, c.loop-command.invariant.calls);
       lasts = lasts_then old mid new (i * most_ticks) most_ticks ((i + 1) * most_ticks) (omega arith) c.loop-command.invariant.lasts c.text_of.ensures.lasts;
-      drained = c.in_ok-text.ensures.drained;
+      drained = λ all. c.in_ok-text.ensures.drained;
       faults = omega (arith, c.text_of.ensures.faults, c.loop-command.invariant.faults);
       sink_faults = c.in-Ok.ensures.cause.calm ∙ c.loop-command.invariant.sink_faults;
     }
@@ -76,13 +76,13 @@ on_err (Err e) p = p
 
 -- the step ended without an answer
 pub returns-in_err-text-clause-cut : goal.returns-in_err-text-clause-cut
-returns-in_err-text-clause-cut g c = λ quiet.
+returns-in_err-text-clause-cut g c = λ all quiet.
     let config = c.args.client.now.config in
     let commands = c.args.commands.now in
     let i = c.loop-command.command-index in
     let before = g.K.Sink.written c.args.sink.now in
     let so_far = g.K.Sink.written c.loop-command.sink in
-    let was = c.loop-command.invariant.done (λ rose. quiet (omega (arith, rose, c.text_of.ensures.faults))) in
+    let was = c.loop-command.invariant.done all (λ rose. quiet (omega (arith, rose, c.text_of.ensures.faults))) in
     on_err c.from_residual.result
     (moves_then (g.L.Link.told c.args.link.now) (g.L.Link.told c.loop-command.link) (g.L.Link.told c.text_of.new.link)
     (λ a part. IsFor a.config config → SessionAt (take i commands) before so_far c.loop-command.client a part)
@@ -93,7 +93,7 @@ returns-in_err-text-clause-cut g c = λ quiet.
 
 -- the sink took a front of the step's text
 pub returns-in-Err-clause-cut : goal.returns-in-Err-clause-cut
-returns-in-Err-clause-cut g c = λ quiet.
+returns-in-Err-clause-cut g c = λ all quiet.
     let config = c.args.client.now.config in
     let client = c.loop-command.client in
     let same : client.config ≡ config = c.loop-command.invariant.config in
@@ -109,7 +109,7 @@ returns-in-Err-clause-cut g c = λ quiet.
     let drained = g.L.Link.drained c.loop-command.link in
     let wrote : GainsFront so_far now text = subst (λ (l : List ℕ). GainsFront so_far now l) c.as_slice.ensures c.in-Err.ensures.err in
     let more : take (i + 1) commands ≡ take i commands ++ command ∷ [] = take_more commands i Addr (omega arith) in
-    let was = c.loop-command.invariant.done (λ rose. quiet (omega (arith, rose, c.text_of.ensures.faults))) in
+    let was = c.loop-command.invariant.done all (λ rose. quiet (omega (arith, rose, c.text_of.ensures.faults))) in
     let stepped = c.in_ok-text.ensures.done (λ rose. quiet (omega (arith, rose, c.loop-command.invariant.faults))) in
     let next = c.text_of.new.client in
     moves_then (g.L.Link.told c.args.link.now) mid new
@@ -118,7 +118,7 @@ returns-in-Err-clause-cut g c = λ quiet.
     (λ a part. IsFor a.config config → IsCutSession commands before now a part)
     (λ a b xs ys goes s t is_for. session_stops client (take i commands) command before so_far drained text next a b xs ys goes (subst (λ (k : ClientConfig). IsFor a.config k) (sym same) is_for) (s is_for) t.0 t.1 commands i now more wrote)
     was
-    (moves_from mid new (IsStep client command drained text next) (λ b. drained ≡ record_text (whole_record b)) c.loop-command.invariant.drained stepped)
+    (moves_from mid new (IsStep client command drained text next) (λ b. drained ≡ record_text (whole_record b)) (c.loop-command.invariant.drained all) stepped)
 
 pub returns-in_err-text-clause-lasts : goal.returns-in_err-text-clause-lasts
 returns-in_err-text-clause-lasts g c =
@@ -129,7 +129,7 @@ returns-in-Err-clause-lasts g c =
     lasts_then _ _ _ (c.loop-command.command-index * most_ticks) most_ticks most_session_ticks (omega (arith, c.requires.few)) c.loop-command.invariant.lasts c.text_of.ensures.lasts
 
 pub returns-clause-done : goal.returns-clause-done
-returns-clause-done g c = λ quiet.
+returns-clause-done g c = λ all quiet.
     let config = c.args.client.now.config in
     let commands = c.args.commands.now in
     let i = c.loop-command.command-index in
@@ -139,4 +139,4 @@ returns-clause-done g c = λ quiet.
     (λ a part. IsFor a.config config → SessionAt (take i commands) before so_far c.loop-command.client a part)
     (λ a part. IsFor a.config config → IsSession commands before so_far a part)
     (λ a part s is_for. subst (λ (l : List Command). IsSession l before so_far a part) (take_all i commands (omega arith)) (s is_for).session)
-    (c.loop-command.invariant.done quiet)
+    (c.loop-command.invariant.done all quiet)

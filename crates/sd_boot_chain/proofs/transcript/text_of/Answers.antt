@@ -19,5 +19,5 @@ returns-clause-done g c = λ quiet.
     let drains = subst (λ (l : List ℕ). Drains (g.L.Link.drained c.args.link.now) (g.L.Link.drained c.drain.new.self) l c.drain.new.text) c.empty-text.ensures
     (subst (λ (l : List ℕ). Drains l (g.L.Link.drained c.drain.new.self) c.empty-text.result c.drain.new.text) c.step.ensures.drained c.in_ok-drain.ensures.text) in
     is_step before (g.L.Link.told c.drain.new.self) client command answer next (g.L.Link.drained c.args.link.now) (g.L.Link.drained c.drain.new.self) drains.0 c.write_answer.new.text
-    moved c.in_ok-drain.ensures.whole drains.1
+    moved c.in_ok-drain.ensures.whole c.in_ok-drain.ensures.rests drains.1
     (c.in_ok-write_answer.ensures.ok ∙ ap (λ (l : List ℕ). l ++ answer_line answer) drains.2)

@@ -1,9 +1,9 @@
 use Rattle.std.proofs.Common.{◌∙◌, ap, ◌++◌}
 use Rattle.std.specs.Prelude.{codes}
-use Rattle.sd_link.specs.Texts.{Text}
-use Rattle.sd_link.specs.Runs.{runs_text}
+use Rattle.sd_text.specs.Texts.{Text}
+use Rattle.sd_text.specs.Runs.{runs_text}
 use Rattle.sd_script.specs.Answers.{stage_text}
-use Rattle.sd_script.proofs.WriteLemmas.{written_in_turn}
+use Rattle.sd_text.proofs.WriteLemmas.{written_in_turn}
 use Rattle.sd_script.proofs.answers.push_unbuilt.Goals as goal
 
 pub returns : goal.returns

@@ -1,11 +1,12 @@
 use Rattle.std.proofs.Common.{◌≡◌, ◌∷◌, ◌++◌, [], ◌∙◌, refl}
 use Rattle.std.proofs.lemmas.Result.{on_err_weaker}
-use Rattle.sd_link.specs.Printing.{packet_text, entry_text}
+use Rattle.sd_link.specs.Printing.{entry_text}
+use Rattle.sd_text.specs.Packets.{packet_text}
 use Rattle.sd_link.specs.Steps as steps
 use Rattle.sd_script.specs.PacketWriting.{head_of_sent}
-use Rattle.sd_script.specs.Writing.{AppendsFront}
-use Rattle.sd_script.proofs.Exits.{on_err}
-use Rattle.sd_script.proofs.PacketLemmas.{front_within, front_before, sent_text}
+use Rattle.sd_text.specs.Writing.{AppendsFront}
+use Rattle.sd_text.proofs.Exits.{on_err}
+use Rattle.sd_script.proofs.RecordLemmas.{front_within, front_before, sent_text}
 use Rattle.sd_script.proofs.record.write_sent.Goals as goal
 
 pub returns-in_err-write_packet_line-clause-err : goal.returns-in_err-write_packet_line-clause-err

@@ -1,6 +1,6 @@
 use Rattle.std.proofs.Common.{sym, ◌∙◌}
 use Rattle.std.proofs.lemmas.Result.{err_from_is_err_and}
-use Rattle.sd_script.proofs.Exits.{handed_on, others}
+use Rattle.sd_text.proofs.Exits.{handed_on, others}
 use Rattle.sd_show.proofs.files.take_request.Goals as goal
 
 pub returns-in_err-mode : goal.returns-in_err-mode

@@ -1,5 +1,5 @@
 use Rattle.std.proofs.Common.{sym, ap, ◌∙◌}
-use Rattle.sd_script.proofs.Exits.{firsts}
+use Rattle.sd_text.proofs.Exits.{firsts}
 use Rattle.sd_show.proofs.FileTexts.{has_zero, no_zero, no_text_word}
 use Rattle.sd_show.proofs.files.take_text.Goals as goal
 

@@ -1,5 +1,5 @@
 use Rattle.std.proofs.Common.{◌++◌, ap, sym, ◌∙◌, codes}
-use Rattle.sd_link.specs.Texts.{Text}
+use Rattle.sd_text.specs.Texts.{Text}
 use Rattle.sd_show.specs.Parts.{exact, kind_parts}
 use Rattle.sd_show.specs.Packing.{spaced}
 use Rattle.sd_show.proofs.Spaced.{parts_text_cons}

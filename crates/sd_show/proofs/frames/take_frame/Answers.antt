@@ -1,5 +1,5 @@
 use Rattle.std.proofs.lemmas.Result.{err_from_is_err_and}
-use Rattle.sd_script.proofs.Exits.{handed_on}
+use Rattle.sd_text.proofs.Exits.{handed_on}
 use Rattle.std.proofs.Common.{refl}
 use Rattle.sd_show.proofs.Named.{not_request, not_reply}
 use Rattle.sd_show.proofs.frames.take_frame.Goals as goal

@@ -1,6 +1,6 @@
 use Rattle.std.proofs.lemmas.Result.{err_from_is_err_and}
-use Rattle.sd_script.proofs.Exits.{handed_on}
-use Rattle.sd_script.specs.Texts.{IsIp}
+use Rattle.sd_text.proofs.Exits.{handed_on}
+use Rattle.sd_text.specs.Texts.{IsIp}
 use Rattle.sd_show.proofs.Named.{no_named}
 use Rattle.sd_show.proofs.frames.take_ip.Goals as goal
 

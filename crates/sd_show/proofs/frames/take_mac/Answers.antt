@@ -1,4 +1,4 @@
-use Rattle.sd_script.specs.Texts.{IsMac}
+use Rattle.sd_text.specs.Texts.{IsMac}
 use Rattle.sd_show.proofs.Named.{no_named}
 use Rattle.sd_show.proofs.frames.take_mac.Goals as goal
 

@@ -1,5 +1,5 @@
 use Rattle.std.proofs.lemmas.Result.{err_from_is_err_and}
-use Rattle.sd_script.proofs.Exits.{handed_on, others}
+use Rattle.sd_text.proofs.Exits.{handed_on, others}
 use Rattle.std.proofs.Common.{sym, ◌∙◌, ◌∷◌}
 use Rattle.sd_show.proofs.frames.take_macs.Goals as goal
 

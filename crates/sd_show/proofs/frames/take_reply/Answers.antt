@@ -1,5 +1,5 @@
 use Rattle.std.proofs.lemmas.Result.{err_from_is_err_and}
-use Rattle.sd_script.proofs.Exits.{handed_on}
+use Rattle.sd_text.proofs.Exits.{handed_on}
 use Rattle.sd_show.proofs.Named.{no_reply, reply_goes_on, reply_ends}
 use Rattle.sd_show.proofs.frames.take_reply.Goals as goal
 

@@ -1,7 +1,7 @@
 use Rattle.std.proofs.Common.{sym, refl, ◌∙◌, ◌∷◌}
 use Rattle.std.proofs.lemmas.Bool.{false≢true}
 use Rattle.std.proofs.lemmas.Result.{err_from_is_err_and}
-use Rattle.sd_script.proofs.Exits.{handed_on, others}
+use Rattle.sd_text.proofs.Exits.{handed_on, others}
 use Rattle.sd_show.proofs.Choosing.{are_taken, datagram_of_file, datagram_of_message}
 use Rattle.sd_show.proofs.packets.read_datagram.Goals as goal
 

@@ -1,8 +1,8 @@
 use Rattle.std.proofs.Common.{sym, ◌∙◌}
 use Rattle.std.proofs.lemmas.Result.{err_from_is_err_and}
 use Rattle.std.proofs.Common.{refl}
-use Rattle.sd_script.specs.Texts.{IsNumber}
-use Rattle.sd_script.proofs.Exits.{takes_exit, others}
+use Rattle.sd_text.specs.Texts.{IsNumber}
+use Rattle.sd_text.proofs.Exits.{takes_exit, others}
 use Rattle.sd_show.specs.Packing.{IsProcedure}
 use Rattle.sd_show.proofs.Behind.{number_is}
 use Rattle.sd_show.proofs.packing.read_procedure.Goals as goal

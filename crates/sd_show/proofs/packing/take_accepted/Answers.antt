@@ -1,5 +1,5 @@
 use Rattle.std.proofs.lemmas.Result.{err_from_is_err_and}
-use Rattle.sd_script.proofs.Exits.{handed_on}
+use Rattle.sd_text.proofs.Exits.{handed_on}
 use Rattle.sd_show.proofs.Behind.{body_ends, same_body}
 use Rattle.sd_show.proofs.Choices.{state_with}
 use Rattle.sd_show.proofs.packing.take_accepted.Goals as goal

@@ -1,6 +1,6 @@
 use Rattle.std.proofs.lemmas.Result.{err_from_is_err_and}
 use Rattle.std.proofs.Common.{sym, ◌∙◌}
-use Rattle.sd_script.proofs.Exits.{handed_on}
+use Rattle.sd_text.proofs.Exits.{handed_on}
 use Rattle.sd_show.proofs.KnownWords.{asked_taken, asked_refused}
 use Rattle.sd_show.proofs.CallWords.{asked_bare, bare_stands, one_procedure, found_some, found_none}
 use Rattle.sd_show.proofs.packing.take_asked.Goals as goal

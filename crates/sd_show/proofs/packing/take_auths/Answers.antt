@@ -1,8 +1,8 @@
 use Rattle.std.proofs.lemmas.Result.{err_from_is_err_and}
-use Rattle.sd_script.proofs.Exits.{handed_on}
+use Rattle.sd_text.proofs.Exits.{handed_on}
 use Rattle.std.proofs.Common.{List, subst}
 use Rattle.std.specs.Prelude.{codes}
-use Rattle.sd_link.specs.Texts.{Text}
+use Rattle.sd_text.specs.Texts.{Text}
 use Rattle.sd_show.specs.Packing.{AuthStands}
 use Rattle.sd_show.proofs.Behind.{auth_ends}
 use Rattle.sd_show.proofs.packing.take_auths.Goals as goal

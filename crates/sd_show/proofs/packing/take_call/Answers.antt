@@ -1,7 +1,7 @@
 use Rattle.std.proofs.Common.{◌≡◌, List, sym, ◌∙◌, subst}
 use Rattle.std.proofs.lemmas.Result.{err_from_is_err_and}
-use Rattle.sd_link.specs.Texts.{Text}
-use Rattle.sd_script.proofs.Exits.{handed_on, others}
+use Rattle.sd_text.specs.Texts.{Text}
+use Rattle.sd_text.proofs.Exits.{handed_on, others}
 use Rattle.sd_show.specs.Calls.{procedure_of}
 use Rattle.sd_show.specs.Packing.{AskedStands, AuthsStand}
 use Rattle.sd_show.proofs.CallWords.{call_stands, call_of, asked_ends}

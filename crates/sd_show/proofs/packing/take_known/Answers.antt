@@ -1,5 +1,5 @@
 use Rattle.std.proofs.lemmas.Result.{err_from_is_err_and}
-use Rattle.sd_script.proofs.Exits.{handed_on}
+use Rattle.sd_text.proofs.Exits.{handed_on}
 use Rattle.sd_show.proofs.KnownWords.{known_taken, known_refused}
 use Rattle.sd_show.proofs.packing.take_known.Goals as goal
 

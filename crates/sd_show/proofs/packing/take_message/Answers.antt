@@ -1,6 +1,6 @@
 use Rattle.std.proofs.Common.{refl}
 use Rattle.std.proofs.lemmas.Result.{err_from_is_err_and}
-use Rattle.sd_script.proofs.Exits.{handed_on}
+use Rattle.sd_text.proofs.Exits.{handed_on}
 use Rattle.sd_show.proofs.Outcomes.{no_call, no_reply}
 use Rattle.sd_show.proofs.packing.take_message.Goals as goal
 

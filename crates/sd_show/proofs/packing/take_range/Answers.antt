@@ -1,5 +1,5 @@
 use Rattle.std.proofs.lemmas.Result.{err_from_is_err_and}
-use Rattle.sd_script.proofs.Exits.{handed_on, others}
+use Rattle.sd_text.proofs.Exits.{handed_on, others}
 use Rattle.std.proofs.Common.{sym, ◌∙◌}
 use Rattle.sd_show.proofs.Behind.{number_is}
 use Rattle.sd_show.proofs.packing.take_range.Goals as goal

@@ -1,7 +1,7 @@
 use Rattle.std.proofs.Common.{sym, ◌∙◌}
 use Rattle.std.specs.Prelude.{codes}
 use Rattle.std.proofs.lemmas.Result.{err_from_is_err_and}
-use Rattle.sd_script.proofs.Exits.{handed_on, others}
+use Rattle.sd_text.proofs.Exits.{handed_on, others}
 use Rattle.sd_show.proofs.Behind.{auth_ends}
 use Rattle.sd_show.proofs.packing.take_raw.Goals as goal
 

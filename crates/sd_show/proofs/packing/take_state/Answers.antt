@@ -1,7 +1,7 @@
 use Rattle.std.proofs.Common.{refl}
 use Rattle.std.proofs.lemmas.Bool.{false≢true}
 use Rattle.std.proofs.lemmas.Result.{err_from_is_err_and}
-use Rattle.sd_script.proofs.Exits.{handed_on}
+use Rattle.sd_text.proofs.Exits.{handed_on}
 use Rattle.sd_show.proofs.Choices.{no_state, word_first}
 use Rattle.sd_show.proofs.packing.take_state.Goals as goal
 

@@ -1,5 +1,5 @@
-use Rattle.sd_script.specs.Texts.{IsAddr}
-use Rattle.sd_script.proofs.Exits.{takes_from}
+use Rattle.sd_text.specs.Texts.{IsAddr}
+use Rattle.sd_text.proofs.Exits.{takes_from}
 use Rattle.sd_show.proofs.pieces.take_addr.Goals as goal
 
 pub returns : goal.returns

@@ -1,6 +1,6 @@
 use Rattle.std.proofs.Common.{◌++◌, ◌∷◌, [], map, ap, ◌∙◌, append_assoc}
 use Rattle.std.specs.List.{concat}
-use Rattle.sd_link.specs.Texts.{Text}
+use Rattle.sd_text.specs.Texts.{Text}
 use Rattle.sd_show.specs.Forms.{quoted_byte, quoted}
 use Rattle.sd_show.proofs.quoting.push_quoted.Goals as goal
 

@@ -1,8 +1,8 @@
 use Rattle.std.proofs.Common.{◌≡◌, ◌∷◌, ◌++◌, [], ◌∙◌}
 use Rattle.std.proofs.lemmas.Result.{err_from_is_err_and}
-use Rattle.sd_link.specs.Texts.{Text}
+use Rattle.sd_text.specs.Texts.{Text}
 use Rattle.sd_show.specs.Saying.{IsQuoted}
-use Rattle.sd_script.proofs.Exits.{outside_exit}
+use Rattle.sd_text.proofs.Exits.{outside_exit}
 use Rattle.sd_show.proofs.Quotes.{some_left, nothing_left, quoting_goes_on, quoting_stops, quoting_full, quoting_ends, quoted_is, spelled}
 use Rattle.sd_show.proofs.quoting.read_quoted.Goals as goal
 

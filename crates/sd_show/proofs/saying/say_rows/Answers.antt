@@ -5,7 +5,7 @@ use Rattle.sd_xdr.specs.Kind.{flag, part, truth}
 use Rattle.sd_xdr.specs.Reading.{reading, word_reading}
 use Rattle.sd_xdr.proofs.Loops.{shrinks, word_shrinks}
 use Rattle.sd_show.specs.Shapes.{row_form}
-use Rattle.sd_link.specs.Texts.{Text}
+use Rattle.sd_text.specs.Texts.{Text}
 use Rattle.sd_show.specs.Forms.{form_kind, form_text}
 use Rattle.sd_show.proofs.ListsWritten.{listing_ends, listing_flag_stops, listing_goes_on, listing_item_stops}
 use Rattle.sd_show.proofs.saying.say_rows.Goals as goal

@@ -1,8 +1,8 @@
 use Rattle.std.proofs.Common.{[], ◌∷◌, sym, subst, ◌∙◌}
 use Rattle.std.proofs.lemmas.Result.{err_from_is_err_and}
 use Rattle.sd_xdr.specs.Kind.{first, second}
-use Rattle.sd_link.specs.Texts.{Text}
-use Rattle.sd_script.proofs.Exits.{handed_on, firsts, others}
+use Rattle.sd_text.specs.Texts.{Text}
+use Rattle.sd_text.proofs.Exits.{handed_on, firsts, others}
 use Rattle.sd_show.specs.Forms.{as_quoted, in_brackets, IsFormText}
 use Rattle.sd_show.proofs.Rows.{pair_stops, pair_ends}
 use Rattle.sd_show.proofs.taking.take_export.Goals as goal

@@ -2,7 +2,7 @@ use Rattle.std.proofs.Common.{List, ◌++◌, ◌+◌, drop, get_or, sym, ap, su
 use Rattle.std.proofs.lemmas.List.{drop_all}
 use Rattle.std.proofs.lemmas.Result.{err_from_is_err_and}
 use Rattle.sd_xdr.specs.Grammar.{writes}
-use Rattle.sd_script.proofs.Exits.{handed_on}
+use Rattle.sd_text.proofs.Exits.{handed_on}
 use Rattle.sd_show.specs.declared.fields.Field.{Field}
 use Rattle.sd_show.specs.declared.fields.Field.TheVariants as fields
 use Rattle.sd_show.specs.Forms.{Form, form_kind, IsFormText}

@@ -1,7 +1,7 @@
 use Rattle.std.proofs.Common.{ℕ, List, ◌++◌, length, refl, sym, ap, ◌∙◌}
 use Rattle.sd_xdr.specs.Kind.{bytes}
 use Rattle.sd_xdr.specs.Grammar.{filled}
-use Rattle.sd_script.proofs.ItemLemmas.{one_runs}
+use Rattle.sd_text.proofs.ItemLemmas.{one_runs}
 use Rattle.sd_show.proofs.taking.take_fixed.Goals as goal
 
 pub returns-then-as_slice-len : goal.returns-then-as_slice-len

@@ -1,6 +1,6 @@
 use Rattle.std.proofs.lemmas.Result.{err_from_is_err_and}
 use Rattle.sd_show.specs.Forms.{as_quoted}
-use Rattle.sd_script.proofs.Exits.{handed_on}
+use Rattle.sd_text.proofs.Exits.{handed_on}
 use Rattle.sd_show.proofs.Rows.{items_go_on, items_stop, items_end, quoted_some_text}
 use Rattle.sd_show.proofs.taking.take_groups.Goals as goal
 

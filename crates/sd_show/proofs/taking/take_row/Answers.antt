@@ -1,6 +1,6 @@
 use Rattle.std.proofs.Common.{◌≡◌, List, [], ◌∷◌, ◌+◌, drop, get_or, subst}
 use Rattle.std.proofs.lemmas.Result.{err_from_is_err_and}
-use Rattle.sd_script.proofs.Exits.{handed_on}
+use Rattle.sd_text.proofs.Exits.{handed_on}
 use Rattle.sd_show.specs.declared.fields.Leaf.{Leaf}
 use Rattle.sd_show.specs.declared.fields.Leaf.TheVariants.{Number}
 use Rattle.sd_show.specs.Shapes.{row_leaves}

@@ -4,12 +4,12 @@ use Rattle.sd_config.specs.declared.stage.Stage.TheVariants as stage
 use Rattle.sd_link.proofs.Histories.{moves_weaker}
 use Rattle.sd_config.specs.declared.command.Command.TheVariants.{Boot}
 use Rattle.sd_config.specs.declared.told.Told.TheVariants.{BootTimeout, BootFlood}
+use Rattle.sd_claims.specs.Causes.{boot_timeout_rarp, boot_flood_rarp}
 use Rattle.sd_rpc_retry.specs.Lasting.{most_asking_ticks}
 use Rattle.sd_rpc_retry.proofs.Lasting.{lasts_then}
 use Rattle.sd_boot_chain.specs.Durations.{most_ticks, most_boot_ticks}
-use Rattle.sd_boot_chain.specs.Step.{IsDone}
-use Rattle.sd_boot_chain.proofs.Addressing.{AsksAddress, address_timeout, address_flood}
-use Rattle.sd_boot_chain.proofs.Booting.{boot_answer, boot_unheard, unmoved}
+use Rattle.sd_boot_chain.proofs.Addressing.{AsksAddress, address_vain, address_full}
+use Rattle.sd_boot_chain.proofs.Booting.{IsDoneSo, done_briefly, boot_answer, boot_unheard, unmoved}
 use Rattle.sd_boot_chain.proofs.client.Client.boot.Goals as goal
 
 pub returns-in-Answer-clause-lasts : goal.returns-in-Answer-clause-lasts
@@ -20,20 +20,23 @@ returns-in-Answer-clause-caused g c = λ quiet.
     let client = c.args.self.now in
     let learned = c.in-Answer.learned in
     let heard = subst (λ e. Moves (g.L.Link.told c.args.link.now) (g.L.Link.told c.learn_address.new.link) (AsksAddress client.config e)) c.in-Answer.is c.in_ok-asked.ensures.told in
-    boot_answer client c.fetch_program.new.self learned _ _ _ c.fetch_program.result heard (c.fetch_program.ensures.caused (λ rose. quiet (omega (arith, rose, c.learn_address.ensures.faults))))
+    boot_answer client c.fetch_program.new.self learned _ _ _ c.fetch_program.result most_ticks (omega arith) (returns-in-Answer-clause-lasts g c) heard
+    (c.fetch_program.ensures.caused (λ rose. quiet (omega (arith, rose, c.learn_address.ensures.faults))))
 
 pub returns-in-Timeout-clause-caused : goal.returns-in-Timeout-clause-caused
 returns-in-Timeout-clause-caused g c = λ quiet.
     let client = c.args.self.now in
     let heard = subst (λ e. Moves (g.L.Link.told c.args.link.now) (g.L.Link.told c.learn_address.new.link) (AsksAddress client.config e)) c.in-Timeout.is c.in_ok-asked.ensures.told in
-    moves_weaker _ _ _ (IsDone client Boot (BootTimeout stage.Rarp) client)
-    (λ h part k. boot_unheard client (BootTimeout stage.Rarp) h part (λ is_for n. ((address_timeout client.config h part is_for k).0, unmoved n)))
-    heard
+    done_briefly _ _ client Boot (BootTimeout stage.Rarp) client most_asking_ticks (omega arith) c.learn_address.ensures.lasts
+    (moves_weaker _ _ _ (IsDoneSo client Boot (BootTimeout stage.Rarp) client)
+    (λ h part k. boot_unheard client (BootTimeout stage.Rarp) h part (λ is_for n. (boot_timeout_rarp part (address_vain client.config h part is_for k), unmoved n)))
+    heard)
 
 pub returns-in-Flood-clause-caused : goal.returns-in-Flood-clause-caused
 returns-in-Flood-clause-caused g c = λ quiet.
     let client = c.args.self.now in
     let heard = subst (λ e. Moves (g.L.Link.told c.args.link.now) (g.L.Link.told c.learn_address.new.link) (AsksAddress client.config e)) c.in-Flood.is c.in_ok-asked.ensures.told in
-    moves_weaker _ _ _ (IsDone client Boot (BootFlood stage.Rarp) client)
-    (λ h part k. boot_unheard client (BootFlood stage.Rarp) h part (λ is_for n. ((address_flood client.config h part is_for k).0, unmoved n)))
-    heard
+    done_briefly _ _ client Boot (BootFlood stage.Rarp) client most_asking_ticks (omega arith) c.learn_address.ensures.lasts
+    (moves_weaker _ _ _ (IsDoneSo client Boot (BootFlood stage.Rarp) client)
+    (λ h part k. boot_unheard client (BootFlood stage.Rarp) h part (λ is_for n. (boot_flood_rarp part (address_full client.config h part is_for k), unmoved n)))
+    heard)

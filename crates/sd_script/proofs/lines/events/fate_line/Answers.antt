@@ -1,11 +1,10 @@
 use Rattle.std.proofs.Common.{List, sym, ◌∙◌, subst}
 use Rattle.std.proofs.lemmas.Bool.{false≢true}
 use Rattle.std.proofs.lemmas.Result.{err_from_is_err_and}
-use Rattle.sd_link.specs.Texts.{Text}
-use Rattle.sd_script.specs.Texts.{IsNumber}
+use Rattle.sd_text.specs.Texts.{Text, IsNumber}
 use Rattle.sd_script.specs.Lines.{IsDelays, MayAddFate}
-use Rattle.sd_script.proofs.Exits.{handed_on, firsts, others}
-use Rattle.sd_script.proofs.NumberLemmas.{one_number}
+use Rattle.sd_text.proofs.Exits.{handed_on, firsts, others}
+use Rattle.sd_text.proofs.NumberLemmas.{one_number}
 use Rattle.sd_script.proofs.lines.events.fate_line.Goals as goal
 
 pub returns-in_err-delays : goal.returns-in_err-delays

@@ -1,10 +1,10 @@
 use Rattle.std.proofs.Common.{length, sym, ◌∙◌}
 use Rattle.std.proofs.lemmas.Bool.{false≢true}
 use Rattle.std.proofs.lemmas.Result.{err_from_is_err_and}
-use Rattle.sd_script.specs.Runs.{IsRunsWithin}
+use Rattle.sd_text.specs.Runs.{IsRunsWithin}
 use Rattle.sd_script.specs.Lines.{HasRoom}
-use Rattle.sd_script.proofs.Exits.{handed_on, firsts, others}
-use Rattle.sd_script.proofs.ItemLemmas.{one_runs}
+use Rattle.sd_text.proofs.Exits.{handed_on, firsts, others}
+use Rattle.sd_text.proofs.ItemLemmas.{one_runs}
 use Rattle.sd_script.proofs.lines.files.file_line.Goals as goal
 
 pub returns-in_err-path : goal.returns-in_err-path

@@ -1,5 +1,5 @@
 use Rattle.std.proofs.lemmas.Result.{err_from_is_err_and}
-use Rattle.sd_script.proofs.Exits.{handed_on}
+use Rattle.sd_text.proofs.Exits.{handed_on}
 use Rattle.sd_script.proofs.lines.files.link_line.Goals as goal
 
 pub returns-in_err-path : goal.returns-in_err-path

@@ -47,3 +47,8 @@ returns-clause-ok c =
     (got_is s id handed kept c.take_next.new.self c.in_ok-push.ensures.items c.take_next.ensures)
     (invariant_of-self-2 c)
     (passes_got s id handed f c.self.invariant at))
+
+pub returns-clause-rests : goal.returns-clause-rests
+returns-clause-rests c =
+    let ready : Rests (view_of c.self.inside) = subst Rests (sym c.self.view_is) c.requires.ready in
+    record { served = ready.served; sessions = ready.sessions }

@@ -1,0 +1,6 @@
+use Rattle.sd_text.proofs.PacketLemmas.{one_packet}
+use Rattle.sd_text.proofs.ReadBack.{packet_again}
+use Rattle.sd_text.proofs.laws.packet_lines_are_read_again.Goals as goal
+
+pub returns : goal.returns
+returns c = record { one = one_packet; again = packet_again }

@@ -1,0 +1,11 @@
+pub mod Texts
+pub mod Answers
+pub mod Values
+pub mod Runs
+pub mod RunReading
+pub mod Writing
+pub mod Packets
+pub mod Kind
+pub mod Grammar
+pub mod Reading
+pub mod Laws
