@@ -59,8 +59,9 @@ pub fn run<S: Source, K: Sink>(
     sink: &mut K,
 ) -> Status
     // The headline. The words are `replay`, and all was done: the output is the transcript of a script that the input
-    // spells. Its steps are a lawful run, its answers are those of the boot machine, each is earned or caused by its part,
-    // and all are ok where the network loses, delays and repeats nothing and the client waits two ticks or more.
+    // spells. Its steps are a lawful run that ends where the server has done all that was due to it, its answers are those of
+    // the boot machine, each is earned or caused by its part, and all are ok where the network loses, delays and repeats
+    // nothing and the client waits two ticks or more.
     ensures transcript { IsReplay words.now → result.0 ≡ 0 →
         Writes (S.left source.old) (K.written sink.old) (K.written sink.new) IsTranscript }
     // Refused: the output is the line that names the first line outside the grammar.

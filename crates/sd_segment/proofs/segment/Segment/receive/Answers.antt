@@ -1,8 +1,9 @@
-use Rattle.std.proofs.Common.{ℕ, List, Option, None, sym, ◌∙◌, ap, subst, arith}
+use Rattle.std.proofs.Common.{◌≡◌, ℕ, List, Option, Some, None, Err, sym, ◌∙◌, ap, subst, arith}
 use Rattle.sd_outside.specs.declared.packet.Packet.{Packet}
-use Rattle.sd_link.specs.declared.link.LinkError.TheVariants.{NoMemory}
-use Rattle.sd_link.specs.Steps.{Step}
-use Rattle.sd_segment.specs.Segment.{SegmentView}
+use Rattle.sd_link.specs.declared.link.LinkError.TheVariants.{NoMemory, Failed}
+use Rattle.sd_link.specs.Link.{Moves, Receives}
+use Rattle.sd_link.specs.Steps.{Step, History}
+use Rattle.sd_segment.specs.Segment.{SegmentView, history_of}
 use Rattle.sd_segment.specs.Passing.{Waits, HandsOut}
 use Rattle.sd_segment.proofs.Waiting.{waits_more, receives_packet, waits_if, receives_none, receives_err}
 use Rattle.sd_segment.proofs.segment.Segment.receive.Goals as goal
@@ -24,6 +25,23 @@ returns-then-tick-until-clause-told c =
     let v = still_waits c.args.until c.args.self.now c.waiting.self c.hand_out.new.self w.0 h w.1 in
     receives_none c.args.until c.args.self.now c.hand_out.new.self w.0 v c.tick-tick.ensures.stood (omega (arith, c.if-tick-until.true, c.tick-tick.ensures.value))
     (c.tick-tick.ensures.settled h.1)
+
+pub returns-in-Err-clause-told : goal.returns-in-Err-clause-told
+returns-in-Err-clause-told c =
+    let w = c.waiting.invariant.waits in
+    let v = subst (λ (s : SegmentView). Waits c.args.until c.args.self.now s w.0) (sym c.in-Err.ensures.err) w.1 in
+    receives_err c.args.until c.args.self.now c.hand_out.new.self w.0 NoMemory v
+
+-- a fault is no part of the history
+pub returns-then-tick-ge-LAST_TICK-clause-told : goal.returns-then-tick-ge-LAST_TICK-clause-told
+returns-then-tick-ge-LAST_TICK-clause-told c =
+    let w = c.waiting.invariant.waits in
+    let old = c.args.self.now in
+    let h = subst (λ (o : Option Packet). HandsOut c.waiting.self c.hand_out.new.self o) c.in-Ok-None.field-0-is c.in-Ok-None.ensures.got in
+    let v = still_waits c.args.until old c.waiting.self c.hand_out.new.self w.0 h w.1 in
+    let same : history_of c.fail.new.self ≡ history_of c.hand_out.new.self = ap history_of c.fail.ensures.same in
+    subst (λ (n : History). Moves (Some (history_of old)) (Some n) (Receives c.args.until (Err Failed))) (sym same)
+    (receives_err c.args.until old c.hand_out.new.self w.0 Failed v)
 
 pub returns-in-Err-advance-clause-told : goal.returns-in-Err-advance-clause-told
 returns-in-Err-advance-clause-told c =
