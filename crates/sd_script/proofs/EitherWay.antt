@@ -22,16 +22,19 @@ ended text draft says (inr early) = inr (length (lines text) + 1, said_early tex
 
 refused : (text : Text) (before : List Text) (line : Text) (after : List Text) (draft : Draft) → lines text ≡ before ++ (line ∷ after) → Says before draft
     → (input_limit < length (concat before) + length line) ⊎ ((new : Draft) → IsLine draft (without_feed line) new → ⊥) → IsEither text
-refused text before line after draft cut says why = inr (length before + 1, inl record {
-  before = before;
-  line = line;
-  after = after;
-  draft = draft;
-  cut = cut;
-  number = refl;
-  says = says;
-  outside = why;
-})
+refused text before line after draft cut says why = inr (
+  length before + 1,
+  inl record {
+    before = before;
+    line = line;
+    after = after;
+    draft = draft;
+    cut = cut;
+    number = refl;
+    says = says;
+    outside = why;
+  },
+)
 
 -- the lines before are in the grammar, and these are left
 from : (text : Text) (left before : List Text) (draft : Draft) → lines text ≡ before ++ left → Says before draft → IsEither text

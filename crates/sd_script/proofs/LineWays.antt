@@ -178,8 +178,10 @@ client_way old (mac ∷ ip ∷ name ∷ domain ∷ router ∷ []) = of (machine_
     here new h = let e = sym h.text in rw (firsts e, firsts (others e), firsts (others (others e))) at h.machine
 
     by_other : (m : Machine) (n : ℕ) → IsMachine mac ip name m → IsName domain → IsIp router n → old.section ≡ sections.Client → Settled (Differ m old.config.server) → Way (ClientLine old (mac ∷ ip ∷ name ∷ domain ∷ router ∷ []))
-    by_other m n is is_name is_ip at (inl apart) = inl (with_config old sections.Config (record old.config { client = m; domain = domain; router = n }),
-      record { client = m; router = n; mac = mac; ip = ip; name = name; domain = domain; router_ip = router; text = refl; place = at; machine = is; domain_name = is_name; is_router = is_ip; differ = apart; means = refl })
+    by_other m n is is_name is_ip at (inl apart) = inl (
+      with_config old sections.Config (record old.config { client = m; domain = domain; router = n }),
+      record { client = m; router = n; mac = mac; ip = ip; name = name; domain = domain; router_ip = router; text = refl; place = at; machine = is; domain_name = is_name; is_router = is_ip; differ = apart; means = refl },
+    )
     by_other m n is is_name is_ip at (inr other) = inr (λ new h. other (subst (λ (k : Machine). Differ k old.config.server) (one_machine mac ip name h.client m (here new h) is) h.differ))
 
     of : Way (IsMachine mac ip name) → Settled (IsName domain) → Way (IsIp router) → Settled (old.section ≡ sections.Client) → Way (ClientLine old (mac ∷ ip ∷ name ∷ domain ∷ router ∷ []))
@@ -236,15 +238,18 @@ params_way old (f ∷ more) = of (both (section_settled old.section sections.Con
     of (inl h) =
         let line = f ++ spaced more in
         let params : file.Draft = record { params = adding old.params.params (said old line); next = after_line old.params.next (fed line) } in
-        inl (with_params old line params, record {
-          line = line;
-          params = params;
-          text = record { field = f; more = more; fields = refl; is = refl };
-          place = h.0;
-          few = h.1.0;
-          says = record { faultless = h.1.1; params = refl; next = refl };
-          means = refl;
-        })
+        inl (
+          with_params old line params,
+          record {
+            line = line;
+            params = params;
+            text = record { field = f; more = more; fields = refl; is = refl };
+            place = h.0;
+            few = h.1.0;
+            says = record { faultless = h.1.1; params = refl; next = refl };
+            means = refl;
+          },
+        )
     of (inr other) = inr (λ new h. other (h.place, (h.few, subst (λ (t : Text). IsFaultless old.params.params (said old t)) (rest_is f more h.line h.text) h.says.faultless)))
 
 may_add_boot_file : (files : List BootFile) (name : Text) → Settled (MayAddBootFile files name)

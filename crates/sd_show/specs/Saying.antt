@@ -36,7 +36,7 @@ pub record IsQuoted (most : ℕ) (text : Text) (bs : List ℕ) : Type 0 where
 
 -- ---- writing what is read
 
--- what a refusal says; want of memory says nothing
+-- what a refusal says; out of memory says nothing
 abbrev pub OnRefusal : MsgError → Type 0 → Type 0
 OnRefusal NoMemory P = Unit {0}
 OnRefusal (Xdr e) P = P

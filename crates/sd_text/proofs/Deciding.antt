@@ -247,10 +247,16 @@ pub packet_way : (line : Text) → Way (IsPacketLine line)
 packet_way line = of (fields line) refl
   where
     by_word : (word : Text) (args : List Text) → fields line ≡ word ∷ args → Way (Behind word args) → Way (IsPacketLine line)
-    by_word word args e (inl p) = inl (p.0, (args, elim p.1 [
-      | inl a ↦ inl (e ∙ ap (λ (w : Text). w ∷ args) a.0, a.1)
-      | inr b ↦ inr (e ∙ ap (λ (w : Text). w ∷ args) b.0, b.1)
-    ]))
+    by_word word args e (inl p) = inl (
+      p.0,
+      (
+        args,
+        elim p.1 [
+          | inl a ↦ inl (e ∙ ap (λ (w : Text). w ∷ args) a.0, a.1)
+          | inr b ↦ inr (e ∙ ap (λ (w : Text). w ∷ args) b.0, b.1)
+        ],
+      ),
+    )
     by_word word args e (inr none) = inr (λ p h. none p (elim h.1 [
       | inl a ↦ let g = sym e ∙ a.0 in inl (firsts g, subst (λ (l : List Text). IsFrameLine l p) (sym (others g)) a.1)
       | inr b ↦ let g = sym e ∙ b.0 in inr (firsts g, subst (λ (l : List Text). IsUdpLine l p) (sym (others g)) b.1)
