@@ -26,6 +26,8 @@ impl Disk for Changing {
 
     ghost tells_crash = { λ _. false };
 
+    ghost unsynced = { λ _. None };
+
     ghost may_leave = { λ _ _. ⊥ };
 
     ghost moment = { λ _. 0 };
@@ -39,6 +41,10 @@ impl Disk for Changing {
     ghost is_whole = { λ disk bytes told. nothing told };
 
     ghost tells_seen = { λ disk tells. never tells };
+
+    ghost tells_unsynced = { λ disk tells. never tells };
+
+    ghost leaves_unsynced = { λ disk. tt };
 
     ghost seen_may_stay = { λ disk bytes tells told. never tells };
 
