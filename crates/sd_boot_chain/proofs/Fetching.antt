@@ -42,10 +42,10 @@ pub takes_first : (f : Fetch) (r : Reception) (old : Option History) → r ≡ f
 takes_first f r old is = subst (λ s. Moves old old (HasTaken f s)) (sym is) (moves_not old (HasTaken f (fresh f.server)) (λ h. takes_none))
 
 -- a turn, by what it says and the receiver then
-turned_to : answers.Step → Reception → Turn
+abbrev turned_to : answers.Step → Reception → Turn
 turned_to says s = record { says = says; becomes = s }
 
-took : Addr → ℕ → Bool → Reception → Turn
+abbrev took : Addr → ℕ → Bool → Reception → Turn
 took to n last s = record { says = step.Took to n last; becomes = s }
 
 -- what came after other steps

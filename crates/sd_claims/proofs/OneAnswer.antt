@@ -140,7 +140,7 @@ module _ (f : Fetch) (xid : ℕ) where
   NextOf more (step.Took to n true) t rest a = (calls : List Step) × (rest ≡ Send (acknowledge f.me to n) ∷ calls) × AtWhoami (concat t.becomes.blocks) (caller_after f xid) (whoami_call f.me.ip) calls a
   NextOf more (step.Refused code) t rest a = a ≡ BootRefused stage.Tftp code
   NextOf more (step.Over got) t rest a = a ≡ BootTooLarge got
-  NextOf more says t rest a = ⊥
+  NextOf more said t rest a = ⊥
 
   FetchWent : ℕ → Reception → List Step → Told → Type 0
   FetchWent zero r part a = ⊥
@@ -150,7 +150,7 @@ module _ (f : Fetch) (xid : ℕ) where
   same_calls p q xs ys e = cc
 
   next_one : (more other : Reception → List Step → Told → Type 0) → ((r : Reception) (rest : List Step) (a b : Told) → more r rest a → other r rest b → a ≡ b)
-      → (says : answers.Step) (t : Turn) (rest : List Step) (a b : Told) → NextOf more says t rest a → NextOf other says t rest b → a ≡ b
+      → (said : answers.Step) (t : Turn) (rest : List Step) (a b : Told) → NextOf more said t rest a → NextOf other said t rest b → a ≡ b
   next_one more other one (step.Took to n false) t rest a b v w = one t.becomes rest a b v w
   next_one more other one (step.Took to n true) t rest a b v w =
       let same = same_calls (Send (acknowledge f.me to n)) (Send (acknowledge f.me to n)) w.0 v.0 (sym w.1 ∙ v.1) in
@@ -328,7 +328,7 @@ module _ (settled : List Step → Type 0) (c : Config) (n : Counts) where
 
   -- each row of the table
   boot_went : (a : Told) (part : List Step) → Cause settled c n command.Boot a part → BootWent part a
-  unfolding BootWent, ends_at
+  unfolding BootWent ends_at
   boot_went _ part (boot_unbuilt program port _ some h) =
       of_call program stage.Getport _ part _ h (port_here (beyond settled h.before) h.caller h.call program port h.last _ h.came_of (some_port program port some))
   boot_went _ part (boot_timeout_rarp _ t) = record { outcome = timed_out; own = part; rest = []; cut = sym (append-nil part); ended = (is_vain settled (rarp_request c.client.mac) (rarp_hearing c.client.mac) c.tries c.wait part t, refl); follows = refl }

@@ -38,7 +38,7 @@ silent-head packet xs silent = cc
 module _ (replies : Packet → List Packet) where
   -- a step that isn't a send doesn't stand where a send or nothing does
   not_afresh : (y : Step) (ys rest xs : List Step) → StartsAfresh xs → sends_in (y ∷ ys) ≡ [] → xs ≡ y ∷ rest → ⊥
-  not_afresh y ys rest xs (inl none) silent e = absurd (let f = sym none ∙ e in cc)
+  not_afresh y ys rest xs (inl none) silent e = let f = sym none ∙ e in cc
   not_afresh y ys rest xs (inr (packet, more, is)) silent e =
       let same = (heads (Send packet) y more rest (sym is ∙ e)).0 in
       silent-head packet ys (subst (λ (s : Step). sends_in (s ∷ ys) ≡ []) (sym same) silent)
@@ -132,12 +132,14 @@ module _ {A : Type 0} (match : Packet → Option A) where
       (sym (append_assoc ex.before (Get ex.id ex.packet ∷ []) xs') ∙ ap (λ (l : List Step). l ++ xs') (sym ex.cut) ∙ e ∙ ap (λ (l : List Step). l ++ ys') ey.cut ∙ append_assoc ey.before (Get ey.id ey.packet ∷ []) ys') in
       record { gives = r.gives; parts = ex.cut ∙ r.parts ∙ sym ey.cut; rests = r.rests }
 
+  unmatched-split : (xs ys : List Step) → AreUnmatched match (got_in (xs ++ ys)) → AreUnmatched match (got_in xs) × AreUnmatched match (got_in ys)
+  unmatched-split xs ys all = all_split (λ packet. match packet ≡ None) (got_in xs) (got_in ys) (subst (λ (l : List Packet). AreUnmatched match l) (got-append xs ys) all)
+
   -- where nothing that was got matches there is none
   pub matched_not : (x : A) (xs xs' part : List Step) → EndsMatched match x xs → part ≡ xs ++ xs' → AreUnmatched match (got_in part) → ⊥
   matched_not x xs xs' part ex cut all =
-      let split = λ (as bs : List Step) (l : AreUnmatched match (got_in (as ++ bs))). all_split (λ packet. match packet ≡ None) (got_in as) (got_in bs) (subst (λ (k : List Packet). AreUnmatched match k) (got-append as bs) l) in
-      let front = (split xs xs' (subst (λ (l : List Step). AreUnmatched match (got_in l)) cut all)).0 in
-      let last = (split ex.before (Get ex.id ex.packet ∷ []) (subst (λ (l : List Step). AreUnmatched match (got_in l)) ex.cut front)).1 in
+      let front = (unmatched-split xs xs' (subst (λ (l : List Step). AreUnmatched match (got_in l)) cut all)).0 in
+      let last = (unmatched-split ex.before (Get ex.id ex.packet ∷ []) (subst (λ (l : List Step). AreUnmatched match (got_in l)) ex.cut front)).1 in
       let f = sym last.0 ∙ ex.matched in cc
 
 -- ---- what came of a request
