@@ -39,7 +39,7 @@ program_is ImageShow words x = ap (λ (w : List (List ℕ)). named (letters w)) 
 pub one_program : (p q : Program) (words : List (List ℕ)) → HasWords p words → HasWords q words → p ≡ q
 one_program p q words x y = sym (program_is p words x) ∙ program_is q words y
 
--- the words of no program are in no row
+-- the words of no program are unknown arguments
 pub no_row : (words : List (List ℕ)) → ((p : Program) → HasWords p words → ⊥) → IsRow words → ⊥
 no_row words none (inl replay) = none Replay replay
 no_row words none (inr (inl show)) = none Show show
@@ -72,7 +72,7 @@ module _ (q p : Program) (words : List (List ℕ)) (r : Result Ended Stop) (told
       memory ImageMake text out so = so
       memory ImageShow text out so = so
 
-      -- the whole refusal is a front of itself
+      -- the whole refusal is a prefix of itself
       no_image : (q : Program) (text out : List ℕ) → Performs q (Ok NoImage) text out → Performs q (Err SinkFault) text out
       no_image Replay text out so = absurd so
       no_image Show text out so = absurd so

@@ -78,7 +78,7 @@ abbrev pub IsAnswer : ImageWord → List ℕ → List ℕ → Type 0
 IsAnswer Make input out = IsImageOf input out ⊎ IsRefusal input out
 IsAnswer Show input out = IsShownImage input out ⊎ IsImageRefusal input out
 
--- a front of what would have been written
+-- a prefix of what would have been written
 pub record IsCutAnswer (word : ImageWord) (input out : List ℕ) : Type 0 where
   pub full : List ℕ
   pub is : IsAnswer word input full
@@ -110,7 +110,7 @@ Answers word (Err SourceFault) input out = out ≡ []
 Answers word (Err SinkFault) input out = IsAnswerFront word input out
 Answers word (Err NoMemory) input out = IsAnswerFront word input out
 
--- the line that says why an image is refused; want of memory says nothing
+-- the line that says why an image is refused; out of memory says nothing
 abbrev pub IsRefusalLine : OpenError → List ℕ → Type 0
 IsRefusalLine (errors.Damaged at) line = line ≡ damaged_line at
 IsRefusalLine (errors.Version got) line = line ≡ version_line got

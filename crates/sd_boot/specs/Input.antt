@@ -10,7 +10,7 @@ Gave (Some all) (Some left) text = all ≡ text ++ left
 Gave None (Some left) text = ⊥
 Gave (Some all) None text = ⊥
 
--- all of what was told, to its end, or a front of it that passes the limit
+-- all of what was told, to its end, or a prefix of it that passes the limit
 abbrev pub IsRead : Option (List ℕ) → Option (List ℕ) → List ℕ → Type 0
 IsRead None left text = Unit {0}
 IsRead (Some all) left text = ((text ≡ all) × (left ≡ Some [])) ⊎ (IsFrontOf text all × (input_limit < length text))

@@ -77,7 +77,7 @@ pub record IsTextRefusal (d : Direction) (input out : Text) : Type 0 where
   pub why : IsRefusedFor d seen line (length (concat before) + length line) (errors.Bad word place)
   pub whole : out ≡ texts ++ place_line (length before + 1) word place
 
--- a front of what would have been written
+-- a prefix of what would have been written
 pub record IsCutText (d : Direction) (input out : Text) : Type 0 where
   pub full : Text
   pub is : IsTranslated d input full ⊎ IsTextRefusal d input full
@@ -115,7 +115,7 @@ Translates d (Err SourceFault) input out = out ≡ []
 Translates d (Err SinkFault) input out = IsTextFront d input out
 Translates d (Err NoMemory) input out = IsTextFront d input out
 
--- what a refusal says; want of memory says nothing
+-- what a refusal says; out of memory says nothing
 abbrev pub IsNotGiven : Direction → List Heard → Text → ShowError → Type 0
 IsNotGiven d seen line (errors.Bad word place) = GivesNone d seen line (errors.Bad word place)
 IsNotGiven d seen line errors.NoMemory = Unit {0}

@@ -18,7 +18,7 @@ IsImageMake words = words ≡ codes "image" ∷ codes "make" ∷ []
 abbrev pub IsImageShow : List (List ℕ) → Type 0
 IsImageShow words = words ≡ codes "image" ∷ codes "show" ∷ []
 
--- the words are in a row
+-- the arguments are known
 abbrev pub IsRow : List (List ℕ) → Type 0
 IsRow words = IsReplay words ⊎ IsShow words ⊎ IsPack words ⊎ IsImageMake words ⊎ IsImageShow words
 
@@ -30,6 +30,6 @@ HasWords Pack words = IsPack words
 HasWords ImageMake words = IsImageMake words
 HasWords ImageShow words = IsImageShow words
 
--- what is written where the words are in no row
+-- what is written where the arguments are unknown
 abbrev pub usage_line : List ℕ
 usage_line = codes "usage: replay, show, pack, image make, image show, workload N, serve, client\n"

@@ -10,7 +10,7 @@ use std::alloc::Global;
 /// The most bytes of an input that is whole.
 pub(crate) const INPUT_LIMIT: usize = 67_108_864;
 
-/// All of the input, or a front of it that passes the limit.
+/// All of the input, or a prefix of it that passes the limit.
 pub(crate) fn read_all<S: Source>(alloc: Global, source: &mut S) -> Result<ByteList, Stop>
     ensures told { IfOk result (IsRead (S.left source.old) (S.left source.new)) }
     ensures calm { OnOk result (S.faults source.new ≡ S.faults source.old) }

@@ -13,7 +13,7 @@ use sd_outside::{ByteList, Failed, NoMemory, Sink};
 use sd_show::Word;
 use std::alloc::Global;
 
-/// Writes a text, or a front of it where the sink fails.
+/// Writes a text, or a prefix of it where the sink fails.
 pub(crate) fn write<K: Sink>(sink: &mut K, bytes: &[u8]) -> Result<(), Stop>
     ensures ok { OnOk result (Gains (K.written sink.old) (K.written sink.new) bytes.now) }
     ensures err { OnErr result (GainsFront (K.written sink.old) (K.written sink.new) bytes.now) }

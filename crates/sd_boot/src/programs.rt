@@ -50,8 +50,8 @@ fn perform<S: Source, K: Sink>(
 
 /// The program: from its words and its input to its output and its status.
 ///
-/// 0: all was done. 1: the input was refused. 2: the words are in no row. 3: the source failed. 4: the sink failed.
-/// 5: want of memory. 8: `image show` was given no image that opens.
+/// 0: all was done. 1: the input was refused. 2: the arguments are unknown. 3: the source failed. 4: the sink failed.
+/// 5: out of memory. 8: `image show` was given no image that opens.
 pub fn run<S: Source, K: Sink>(
     alloc: Global,
     words: &[Text],
@@ -67,7 +67,7 @@ pub fn run<S: Source, K: Sink>(
     // Refused: the output is the line that names the first line outside the grammar.
     ensures refusal { IsReplay words.now → result.0 ≡ 1 →
         Writes (S.left source.old) (K.written sink.old) (K.written sink.new) IsRefusal }
-    // Cut short by the sink or by want of memory: the output is a front of the one or the other.
+    // Cut short by the sink or by running out of memory: the output is a prefix of the one or the other.
     ensures front { IsReplay words.now → 4 ≤ result.0 →
         Writes (S.left source.old) (K.written sink.old) (K.written sink.new) IsFront }
     // `show`: each line of the input is a packet's, and the output is their texts, each with a line feed.
@@ -102,7 +102,7 @@ pub fn run<S: Source, K: Sink>(
         Writes (S.left source.old) (K.written sink.old) (K.written sink.new) IsShownFront }
     // Cut short by the source: nothing was written.
     ensures nothing { result.0 ≡ 3 → K.written sink.new ≡ K.written sink.old }
-    // The usage line stands exactly where the words are in no row, unless the sink failed.
+    // The usage line stands exactly where the arguments are unknown, unless the sink failed.
     ensures usage { result.0 ≡ 2 → Gains (K.written sink.old) (K.written sink.new) usage_line }
     ensures unknown { (IsRow words.now → ⊥) → (result.0 ≡ 2) ⊎ (result.0 ≡ 4) }
     ensures known { IsRow words.now → result.0 ≡ 2 → ⊥ }
@@ -116,7 +116,7 @@ pub fn run<S: Source, K: Sink>(
     ensures calm_sink { result.0 ≤ 2 → K.faults sink.new ≡ K.faults sink.old }
     ensures refused_source { result.0 ≡ 8 → S.faults source.new ≡ S.faults source.old }
     ensures refused_sink { result.0 ≡ 8 → K.faults sink.new ≡ K.faults sink.old }
-    // Where neither the source nor the sink fails, a script is played to its end, unless memory is wanting.
+    // Where neither the source nor the sink fails, a script is played to its end, unless it runs out of memory.
     ensures complete { IsReplay words.now → (Rose (S.faults source.old) (S.faults source.new) → ⊥) → (Rose (K.faults sink.old) (K.faults sink.new) → ⊥) →
         IfSome (S.left source.old) (λ text. (script : Script) → IsScript text script → (result.0 ≡ 0) ⊎ (result.0 ≡ 5)) }
     // The same for the image of a script and the files of an image; and an image that is refused answers so.

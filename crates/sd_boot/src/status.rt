@@ -15,7 +15,7 @@ pub(crate) enum Ended {
     Done,
     /// The input was refused.
     Refused,
-    /// The words are in no row.
+    /// The arguments are unknown.
     Usage,
     /// The input is no image that can be opened.
     NoImage,
@@ -28,7 +28,7 @@ pub(crate) enum Stop {
     SourceFault,
     /// The sink failed.
     SinkFault,
-    /// Want of memory.
+    /// Out of memory.
     NoMemory,
 }
 

@@ -3,6 +3,7 @@
 mod boots;
 mod examples;
 mod images;
+mod nfs;
 mod texts;
 
 use super::*;

@@ -20,7 +20,7 @@ use Rattle.sd_config.specs.declared.told.Told.{Told}
 use Rattle.sd_config.specs.declared.told.Told.TheVariants.{BootUnbuilt, BootTimeout, BootFlood, BootDenied, BootRefused, BootNoPort, BootTooLarge, BootLinkFault}
 use Rattle.sd_claims.specs.Rarp.{Learned}
 use Rattle.sd_claims.specs.Fetching.{Fetch, Fetched, FetchTimedOut, FetchFlooded, FetchRefused, FetchTooLarge}
-use Rattle.sd_claims.specs.Booting.{Counts, Call, LearnsAddress, OfFetch, OfCall, CallTold, ComesTo, to_whoami, boot_fetch, caller_after, whoami_call}
+use Rattle.sd_claims.specs.Booting.{Counts, Call, LearnsAddress, OfFetch, OfCall, CallTold, CallTimedOut, CallFlooded, ComesTo, to_whoami, boot_fetch, caller_after, whoami_call}
 use Rattle.sd_claims.specs.Causes.{Cause, addr_ok, addr_timeout, addr_flood, boot_unbuilt, boot_timeout_rarp, boot_timeout_tftp, boot_timeout_call, boot_flood_rarp, boot_flood_tftp, boot_flood_call, boot_denied, boot_refused, boot_no_port, boot_too_large, wait_ok, wait_flood, reaches, calls_at, counts_at, counts_after}
 use Rattle.sd_claims.specs.Ending.{EndsAfter}
 use Rattle.sd_claims.proofs.Counted.{calls_count}
@@ -88,11 +88,22 @@ module _ (first : History) (n : Counts) (program : List ℕ) (whole : List Step)
   reached : (step : Stage) (came : (List Step → Type 0) → Caller → Call → List Step → Type 0) → OfCall (IsSettledBy first) first.config n program step came whole → Reaches step
   reached step came h = (calls_count (IsSettledBy first) first.config n program step h.caller h.call h.before h.to).0
 
+  -- what came of the call, in other words
+  as_came : (step : Stage) (came other : (List Step → Type 0) → Caller → Call → List Step → Type 0) → ((still : List Step → Type 0) (caller : Caller) (call : Call) (part : List Step) → came still caller call part → other still caller call part)
+      → OfCall (IsSettledBy first) first.config n program step came whole → OfCall (IsSettledBy first) first.config n program step other whole
+  as_came step came other so h = record { caller = h.caller; call = h.call; before = h.before; last = h.last; to = h.to; came_of = so (beyond (IsSettledBy first) h.before) h.caller h.call h.last h.came_of; cut = h.cut }
+
   -- a call had no answer
   without : (step : Stage) (why : CallError) (answer : Told) → OfCall (IsSettledBy first) first.config n program step (HasNoAnswer why) whole → answer_without step why ≡ Ok answer → (IsFault answer → ⊥) → IsRight first n (calls_at step) whole answer
-  without step error.Timeout answer h e calm = subst (IsRight first n (calls_at step) whole) (ok_is (BootTimeout step) answer e) (boot_timeout_call program step whole h, counts_so step (reached step _ h))
-  without step error.Flood answer h e calm = subst (IsRight first n (calls_at step) whole) (ok_is (BootFlood step) answer e) (boot_flood_call program step whole h, counts_so step (reached step _ h))
-  without step (error.Denied code) answer h e calm = subst (IsRight first n (calls_at step) whole) (ok_is (BootDenied step code) answer e) (boot_denied program step code whole h, counts_so step (reached step _ h))
+  without step error.Timeout answer h e calm =
+      subst (IsRight first n (calls_at step) whole) (ok_is (BootTimeout step) answer e)
+      (boot_timeout_call program step whole (as_came step (HasNoAnswer error.Timeout) CallTimedOut (λ still caller call part x. x) h), counts_so step (reached step _ h))
+  without step error.Flood answer h e calm =
+      subst (IsRight first n (calls_at step) whole) (ok_is (BootFlood step) answer e)
+      (boot_flood_call program step whole (as_came step (HasNoAnswer error.Flood) CallFlooded (λ still caller call part x. x) h), counts_so step (reached step _ h))
+  without step (error.Denied code) answer h e calm =
+      subst (IsRight first n (calls_at step) whole) (ok_is (BootDenied step code) answer e)
+      (boot_denied program step code whole (as_came step (HasNoAnswer (error.Denied code)) (CallTold (Err code)) (λ still caller call part x. x) h), counts_so step (reached step _ h))
   without step error.LinkFault answer h e calm = absurd (calm (subst IsFault (ok_is BootLinkFault answer e) tt))
   without step error.NoMemory answer h e calm = absurd cc
 

@@ -42,9 +42,9 @@ moves_to None (Some new) P Q q m = absurd m
 moves_to (Some old) None P Q q m = absurd m
 moves_to (Some old) (Some new) P Q q m = (m.0, m.1, (new, m.1, q, m.2))
 
-both : {P Q : History → Type 0} (told : Option History) → IfSome told P → IfSome told Q → IfSome told (λ h. P h × Q h)
-both None p q = tt
-both (Some h) p q = (p, q)
+both : (P Q : History → Type 0) (told : Option History) → IfSome told P → IfSome told Q → IfSome told (λ h. P h × Q h)
+both P Q None p q = tt
+both P Q (Some h) p q = (p, q)
 
 -- one command: its answer, the lines that were drained, and the answer line
 pub is_step : (old new : Option History) (client : ClientView) (command : Command) (answer : Told) (next : ClientView) (drained_old drained_new added text : List ℕ)
@@ -60,7 +60,7 @@ is_step old new client command answer next drained_old drained_new added text mo
       shown = λ was. is ∙ ap (λ (l : List ℕ). l ++ answer_line answer) (new_lines h m.0 part drained_old drained_new added m.1 drains was m.2.0);
       rests = rests-goes h m.0 part m.1 m.2.1;
     })
-    (moves_to old new _ (λ h. (drained_new ≡ record_text (whole_record h)) × IsAtRest h) (both new whole rests) moved)
+    (moves_to old new _ (λ h. (drained_new ≡ record_text (whole_record h)) × IsAtRest h) (both (λ h. drained_new ≡ record_text (whole_record h)) IsAtRest new whole rests) moved)
 
 -- what holds of the history that is told goes with its next part
 pub moves_from : (old new : Option History) (P : History → List Step → Type 0) (Q : History → Type 0) → IfSome old Q → Moves old new P → Moves old new (λ h part. Q h × P h part)

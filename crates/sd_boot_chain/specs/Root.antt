@@ -25,7 +25,7 @@ Names from client settled caller call part = (domain : List ℕ) × (router : �
 abbrev pub Places : ℕ → (List Step → Type 0) → Caller → Call → List Step → Type 0
 Places ip settled caller call part = (from : ℕ) × (server : List ℕ) × (path : List ℕ) × CallTold (Ok (answers.Getfile from server ip path)) settled caller call part
 
--- why a call has no answer; nothing is said of a fault and of want of memory
+-- why a call has no answer; nothing is said of a fault and of running out of memory
 abbrev pub HasNoAnswer : CallError → (List Step → Type 0) → Caller → Call → List Step → Type 0
 HasNoAnswer error.Timeout settled caller call part = CallTimedOut settled caller call part
 HasNoAnswer error.Flood settled caller call part = CallFlooded settled caller call part

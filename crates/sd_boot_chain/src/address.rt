@@ -10,13 +10,11 @@ ghost use Rattle.sd_rpc_retry.specs.Asking.{IsAsked, IsAskedFault};
 ghost use Rattle.sd_boot_chain.specs.Step.{IsFault};
 ghost use Rattle.sd_boot_chain.specs.Address.{shows_learned, IsAddrAnswer};
 
-use sd_config::{ClientConfig, Stage};
-
+use sd_config::{ClientConfig, Stage, Told};
 use sd_link::Link;
 use sd_outside::{ByteList, Mac, NoMemory, Packet};
 use sd_rarp::{RarpFrame, read_frame, write_frame};
 use sd_rpc_retry::{Asked, Listener, Look, ask};
-use sd_config::Told;
 use std::alloc::Global;
 
 /// What a reply tells.

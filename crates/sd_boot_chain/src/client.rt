@@ -18,11 +18,10 @@ use crate::address::{Learned, learn, own_address};
 use crate::boot::program_name;
 use crate::fetch::Task;
 use crate::pause::wait;
-use sd_config::ClientConfig;
+use sd_config::{ClientConfig, Command, Told};
 use sd_link::Link;
 use sd_outside::{Addr, ByteList, NoMemory};
 use sd_rpc_retry::{Asked, Caller};
-use sd_config::{Command, Told};
 use std::alloc::Global;
 use std::marker::Model;
 

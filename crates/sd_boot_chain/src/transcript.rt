@@ -25,7 +25,7 @@ use std::alloc::Global;
 pub enum SessionError {
     /// The sink failed, and counted it.
     SinkFault,
-    /// Want of memory.
+    /// Out of memory.
     NoMemory,
 }
 
@@ -111,7 +111,7 @@ pub fn session<L: Link, K: Sink>(
     ensures done { IsDrained (L.told link.old) (L.drained link.old) → (Rose (L.faults link.old) (L.faults link.new) → ⊥) → OnOk result (
         Moves (L.told link.old) (L.told link.new) (λ old part. IsFor old.config config →
         IsSession commands.now (K.written sink.old) (K.written sink.new) old part)) }
-    // After a refusal the output is a front of such a transcript, of the first so many commands.
+    // After a refusal the output is a prefix of such a transcript, of the first so many commands.
     ensures cut { IsDrained (L.told link.old) (L.drained link.old) → (Rose (L.faults link.old) (L.faults link.new) → ⊥) → OnErr result (
         Moves (L.told link.old) (L.told link.new) (λ old part. IsFor old.config config →
         IsCutSession commands.now (K.written sink.old) (K.written sink.new) old part)) }

@@ -6,7 +6,7 @@ ghost use Rattle.sd_boot_chain.specs.Writing.{GainsFront};
 
 use sd_outside::{Failed, Sink};
 
-/// Writes all of the bytes, or a front of them where the sink fails.
+/// Writes all of the bytes, or a prefix of them where the sink fails.
 pub fn write_all<K: Sink>(sink: &mut K, bytes: &[u8]) -> Result<(), Failed>
     ensures ok { OnOk result (Gains (K.written sink.old) (K.written sink.new) bytes.now) }
     ensures err { OnErr result (GainsFront (K.written sink.old) (K.written sink.new) bytes.now) }

@@ -47,7 +47,7 @@ record Went {A : Type 0} (asked : Packet) (h : Hearing A) (tries : ℕ) (vain fu
 
 went_one : {A : Type 0} (asked : Packet) (h : Hearing A) (tries : ℕ) (vain full : Told) (next other : A → List Step → Told → Type 0) → ((x : A) (rest : List Step) (a b : Told) → next x rest a → other x rest b → a ≡ b)
     → (part : List Step) (a b : Told) → Went asked h tries vain full next part a → Went asked h tries vain full other part b → a ≡ b
-went_one asked h tries vain full next other one part a b v w =
+went_one {A = A} asked h tries vain full next other one part a b v w =
     let s = one_outcome asked h tries v.outcome w.outcome part v.own v.rest w.own w.rest v.cut w.cut v.ended w.ended in
     by v.outcome v.rest v.follows (subst (λ o. After vain full other o v.rest b) (sym s.outcome) (subst (λ (l : List Step). After vain full other w.outcome l b) (sym s.rests) w.follows))
   where
@@ -289,22 +289,22 @@ module _ (settled : List Step → Type 0) (c : Config) (n : Counts) where
   -- the call of a step is given up, floods or is refused
   call_vain : (program : List ℕ) (at : Stage) (caller : Caller) (call : Call) (before last : List Step) (still : List Step → Type 0) → ComesTo settled c n program at caller call before → CallTimedOut still caller call last → At program at caller call last (BootTimeout at)
   unfolding CallWent
-  call_vain program _ _ _ _ last still (to_whoami learned address fetch h fetched) t = vain_here still _ _ stage.Whoami _ last t
-  call_vain program _ _ _ _ last still (to_getfile caller call before own from client domain router to h) t = vain_here still _ _ stage.Getfile _ last t
-  call_vain program _ _ _ _ last still (to_getport caller call before own from server ip path to h) t = vain_here still _ _ stage.Getport _ last t
+  call_vain program _ _ _ _ last still (to_whoami learned address fetch h fetched) t = vain_here still (caller_after (boot_fetch c n.boots learned) n.next_xid) (whoami_call learned.address) stage.Whoami (NameNext program (caller_after (boot_fetch c n.boots learned) n.next_xid)) last t
+  call_vain program _ _ _ _ last still (to_getfile caller call before own from client domain router to h) t = vain_here still (after_call caller) (getfile_call from client (codes "root")) stage.Getfile (FileNext program (after_call caller)) last t
+  call_vain program _ _ _ _ last still (to_getport caller call before own from server ip path to h) t = vain_here still (after_call caller) (getport_call ip) stage.Getport (PortNext program) last t
 
   call_full : (program : List ℕ) (at : Stage) (caller : Caller) (call : Call) (before last : List Step) (still : List Step → Type 0) → ComesTo settled c n program at caller call before → CallFlooded still caller call last → At program at caller call last (BootFlood at)
   unfolding CallWent
-  call_full program _ _ _ _ last still (to_whoami learned address fetch h fetched) t = full_here still _ _ stage.Whoami _ last t
-  call_full program _ _ _ _ last still (to_getfile caller call before own from client domain router to h) t = full_here still _ _ stage.Getfile _ last t
-  call_full program _ _ _ _ last still (to_getport caller call before own from server ip path to h) t = full_here still _ _ stage.Getport _ last t
+  call_full program _ _ _ _ last still (to_whoami learned address fetch h fetched) t = full_here still (caller_after (boot_fetch c n.boots learned) n.next_xid) (whoami_call learned.address) stage.Whoami (NameNext program (caller_after (boot_fetch c n.boots learned) n.next_xid)) last t
+  call_full program _ _ _ _ last still (to_getfile caller call before own from client domain router to h) t = full_here still (after_call caller) (getfile_call from client (codes "root")) stage.Getfile (FileNext program (after_call caller)) last t
+  call_full program _ _ _ _ last still (to_getport caller call before own from server ip path to h) t = full_here still (after_call caller) (getport_call ip) stage.Getport (PortNext program) last t
 
   call_denied : (program : List ℕ) (at : Stage) (code : ℕ) (caller : Caller) (call : Call) (before last : List Step) (still : List Step → Type 0) → ComesTo settled c n program at caller call before → CallTold (Err code) still caller call last
       → At program at caller call last (BootDenied at code)
   unfolding CallWent
-  call_denied program _ code _ _ _ last still (to_whoami learned address fetch h fetched) t = denied_here still _ _ stage.Whoami _ code last _ t refl
-  call_denied program _ code _ _ _ last still (to_getfile caller call before own from client domain router to h) t = denied_here still _ _ stage.Getfile _ code last _ t refl
-  call_denied program _ code _ _ _ last still (to_getport caller call before own from server ip path to h) t = denied_here still _ _ stage.Getport _ code last _ t refl
+  call_denied program _ code _ _ _ last still (to_whoami learned address fetch h fetched) t = denied_here still (caller_after (boot_fetch c n.boots learned) n.next_xid) (whoami_call learned.address) stage.Whoami (NameNext program (caller_after (boot_fetch c n.boots learned) n.next_xid)) code last (BootDenied stage.Whoami code) t refl
+  call_denied program _ code _ _ _ last still (to_getfile caller call before own from client domain router to h) t = denied_here still (after_call caller) (getfile_call from client (codes "root")) stage.Getfile (FileNext program (after_call caller)) code last (BootDenied stage.Getfile code) t refl
+  call_denied program _ code _ _ _ last still (to_getport caller call before own from server ip path to h) t = denied_here still (after_call caller) (getport_call ip) stage.Getport (PortNext program) code last (BootDenied stage.Getport code) t refl
 
   some_port : (program : List ℕ) (port : ℕ) → 0 < port → BootUnbuilt stage.Mnt program ≡ ends_at program port
   unfolding ends_at

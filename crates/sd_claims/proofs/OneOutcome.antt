@@ -21,6 +21,7 @@ own replies (Get id packet) = map Send (replies packet)
 own replies step = []
 
 with-step : (replies : Packet → List Packet) (x : Step) (xs : List Step) → with_replies replies (x ∷ xs) ≡ x ∷ (own replies x ++ with_replies replies xs)
+unfolding own
 with-step replies (Get id packet) xs = refl
 with-step replies x xs = refl
 
@@ -91,7 +92,7 @@ module _ (replies : Packet → List Packet) where
 
 -- ---- the first match
 
-record SameFirst {A : Type 0} (x y : A) (xs ys xs' ys' : List Step) : Type 0 where
+pub record SameFirst {A : Type 0} (x y : A) (xs ys xs' ys' : List Step) : Type 0 where
   pub gives : x ≡ y
   pub parts : xs ≡ ys
   pub rests : xs' ≡ ys'

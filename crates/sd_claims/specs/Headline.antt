@@ -47,7 +47,7 @@ pub record Plays (s : Script) (out : List ℕ) : Type 0 where
   pub all : AreDone s s.commands done
   pub whole : out ≡ written s done
 
--- a front of a transcript of its first so many commands
+-- a prefix of a transcript of its first so many commands
 pub record PlaysFront (s : Script) (out : List ℕ) : Type 0 where
   pub count : ℕ
   pub done : List Done
@@ -69,19 +69,19 @@ pub record IsRefusal (text out : List ℕ) : Type 0 where
   pub first : IsFirstOutside text line
   pub whole : out ≡ refusal_line line
 
--- a front of a transcript, for the first so many commands
+-- a prefix of a transcript, for the first so many commands
 pub record IsCutShort (text out : List ℕ) : Type 0 where
   pub script : Script
   pub spelled : IsScript text script
   pub plays : PlaysFront script out
 
--- a front of a refusal
+-- a prefix of a refusal
 pub record IsCutRefusal (text out : List ℕ) : Type 0 where
   pub full : List ℕ
   pub refusal : IsRefusal text full
   pub front : IsFrontOf out full
 
--- a front of what would have been written; nothing is a front of both
+-- a prefix of what would have been written; no bytes are a prefix of both
 abbrev pub IsFront : List ℕ → List ℕ → Type 0
 IsFront text out = (out ≡ []) ⊎ IsCutShort text out ⊎ IsCutRefusal text out
 

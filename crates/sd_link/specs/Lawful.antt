@@ -10,7 +10,7 @@ use Rattle.sd_link.specs.World.{World, Flying, Sender, start}
 use Rattle.sd_services.specs.Sessions.{is_due}
 use Rattle.sd_link.specs.Steps.{Step, Tick, Send, Serve, Data, End, Get, Entry, Sent, Served, Got, after, entries_of, run, record_of, AllAllowed, goes_to_server, goes_to_client}
 
--- the front is where the whole begins
+-- the front is a prefix of the whole
 abbrev pub IsFrontOf : {A : Type 0} → List A → List A → Type 0
 IsFrontOf {A} front whole = (rest : List A) × (front ++ rest ≡ whole)
 

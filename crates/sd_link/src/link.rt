@@ -12,7 +12,7 @@ use sd_outside::{ByteList, NoMemory, Packet};
 pub enum LinkError {
     /// A fault of the network, which the link counted.
     Failed,
-    /// Want of memory.
+    /// Out of memory.
     NoMemory,
 }
 
@@ -41,7 +41,7 @@ pub trait Link {
         ensures told { told self.new ≡ told self.old }
         ensures tick { IsNow (told self.new) (clock self.new) }
         ensures world { IfSome (told self.new) IsReached }
-        // What was drained is the text of a front of the record.
+        // What was drained is the text of a prefix of the record.
         ensures front { IfSome (told self.new) (λ h. IsFrontOf (drained self.new) (record_text (whole_record h))) }
         ensures faults { faults self.old ≤ faults self.new }
         ensures handed { handed self.new ≡ handed self.old }

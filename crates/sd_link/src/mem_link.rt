@@ -146,7 +146,7 @@ impl Link for MemLink {
         self.tick
     }
 
-    /// Takes a packet. It fails exactly where that was planned, and finds no want of memory.
+    /// Takes a packet. It fails exactly where that was planned, and never runs out of memory.
     fn send(&mut self, packet: &Packet) -> Result<(), LinkError>
         ensures cause { LinkCause self.old.faults self.new.faults result }
         ensures fails { IsErr result ↔ IsPlanned self.old }
@@ -162,7 +162,7 @@ impl Link for MemLink {
         Ok(())
     }
 
-    /// Waits for a packet, until this tick at most. It finds no want of memory.
+    /// Waits for a packet, until this tick at most. It never runs out of memory.
     fn recv(&mut self, until: u64) -> Result<Option<Packet>, LinkError>
         ensures reached { result ≡ Ok None → until ≤ self.new.tick }
         ensures later { self.old.tick ≤ self.new.tick }

@@ -208,4 +208,4 @@ name_fits lines are n (inr line) = by line.way
     by (inr e) = subst (λ (m : Node). NameFits m.path) (sym e) (name_of_path (item_path line.item) is)
 
 pub nodes_fit : (lines : List RootItem) → AreRootItems lines → (nodes : List Node) → length nodes ≤ 1 + 1025 * length lines → Kept (Below lines (length lines)) nodes → NodesFit nodes
-nodes_fit lines are nodes few k = let l = are.few in record { few = omega arith; each = λ i d lt. node_fits lines are (slice_index_or nodes i d) (k.sound i d lt); names = λ i d lt. name_fits lines are (slice_index_or nodes i d) (k.sound i d lt) }
+nodes_fit lines are nodes few k = let l = are.few in record { up = k.up; few = omega arith; each = λ i d lt. node_fits lines are (slice_index_or nodes i d) (k.sound i d lt); names = λ i d lt. name_fits lines are (slice_index_or nodes i d) (k.sound i d lt) }

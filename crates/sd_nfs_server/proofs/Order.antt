@@ -1,6 +1,6 @@
 -- Nodes in byte order of their paths stay so where one is put at its place.
 use Rattle.std.proofs.Common.{◌≡◌, ℕ, ◌+◌, ◌-◌, ◌<◌, ◌≤◌, List, length, slice_index_or, refl, sym, ap, ◌∙◌, subst, inl, inr, arith}
-use Rattle.std.specs.Prelude.{◌⊎◌, insert}
+use Rattle.std.specs.Prelude.{◌⊎◌, ◌≢◌, Some, None, insert}
 use Rattle.std.specs.Cmp.Lexicographic.{slice_cmp}
 use Rattle.std.specs.Ordering.{nat_cmp}
 use Rattle.std.specs.declared.cmp.Ordering.{Ordering}
@@ -8,9 +8,10 @@ use Rattle.std.specs.declared.cmp.Ordering.TheVariants.{Less, Equal, Greater}
 use Rattle.std.proofs.lemmas.List.{get_or_default, length-append, length-take, length-drop}
 use Rattle.std.proofs.lemmas.List.Edits.{get_or-insert_at, get_or-insert_below, get_or-insert_above}
 use Rattle.sd_services.specs.declared.node.Node.{Node}
-use Rattle.sd_services.specs.Files.{IsBefore}
-use Rattle.sd_services.proofs.Order.{Ascends, before_trans, same_text, turned_round, Rank, below, level, higher, rank}
+use Rattle.sd_services.specs.Files.{IsBefore, directory_at}
+use Rattle.sd_services.proofs.Order.{Ascends, before_trans, never, same_text, turned_round, Rank, below, level, higher, rank}
 use Rattle.sd_nfs_server.specs.Placing.{IsPlaceOf, HasPathAt, Placed}
+use Rattle.sd_nfs_server.specs.Steps.{IsNumberOf}
 
 -- of two texts one is before the other, or they are the same
 pub one_of : (p q : List ℕ) → (IsBefore p q → ⊥) → (p ≡ q → ⊥) → IsBefore q p
@@ -107,3 +108,21 @@ found_place nodes path low high b met = record {
   before = b.before;
   after = λ d lt before. b.after low d met lt before;
 }
+
+-- the number of the node with a path, from its place
+differs : (p q : List ℕ) → IsBefore p q → p ≢ q
+differs p q before same = never q (subst (λ (r : List ℕ). IsBefore r q) same before)
+
+pub number_there : (nodes : List Node) (path : List ℕ) (at : ℕ) → IsPlaceOf nodes path at → HasPathAt nodes at path → IsNumberOf nodes path (Some (at + 1))
+number_there nodes path at place has = (at, refl, has.inside, has.same, λ i d less. differs (slice_index_or nodes i d).path path (place.before i d less))
+
+pub number_missing : (nodes : List Node) (path : List ℕ) (at : ℕ) → Ascends nodes → IsPlaceOf nodes path at → (HasPathAt nodes at path → ⊥) → IsNumberOf nodes path None
+number_missing nodes path at up place new k d inside = by (rank k at)
+  where
+    late : at ≤ k → (slice_index_or nodes k d).path ≢ path
+    late from same = differs path (slice_index_or nodes k d).path (before_rest nodes (directory_at path) at up place new k d from inside) (sym same)
+
+    by : Rank k at → (slice_index_or nodes k d).path ≢ path
+    by (below less) = differs (slice_index_or nodes k d).path path (place.before k d less)
+    by (level same) = late (omega arith)
+    by (higher more) = late (omega arith)

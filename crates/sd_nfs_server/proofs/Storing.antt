@@ -1,8 +1,10 @@
 -- One call of a store after another.
-use Rattle.std.proofs.Common.{◌≡◌, ◌⊎◌, inl, inr, ℕ, ◌≤◌, List, arith}
-use Rattle.std.specs.Prelude.{Option}
+use Rattle.std.proofs.Common.{◌≡◌, ◌⊎◌, inl, inr, ℕ, ◌≤◌, List, Bool, true, false, refl, ap, sym, arith}
+use Rattle.std.specs.Prelude.{Option, Some, None}
 use Rattle.sd_outside.specs.Disk.{LeavesOnly}
 use Rattle.sd_stable_disk.specs.Files.{IsEither}
+use Rattle.sd_stable_disk.specs.declared.errors.OpenError.{OpenError}
+use Rattle.sd_nfs_server.specs.Acts.{place_of, damaged_in}
 
 -- what crashes leave in one stretch of time, and then in the next
 pub leaves_then : {D A : Type 0} (moment : D → ℕ) (left_since : D → ℕ → A → Type 0) (a b c : D) (P Q : A → Type 0) → ((left : A) → Q left → P left) → LeavesOnly moment left_since a b P → LeavesOnly moment left_since b c Q → LeavesOnly moment left_since a c P
@@ -35,3 +37,18 @@ leaves_weaker {D = D} {A = A} moment left_since a b P Q weaker one = record {
 pub kept_or : (file at : ℕ) (bytes : List ℕ) (H : Type 0) (old left : Option (List (List ℕ))) → H ⊎ (left ≡ old) → H ⊎ IsEither file at bytes old left
 kept_or file at bytes H old left (inl held) = inl held
 kept_or file at bytes H old left (inr same) = inr (inl same)
+
+-- what isn't up is down
+pub down_where : (up : Bool) → (up ≡ true → ⊥) → up ≡ false
+down_where true no_way = absurd (no_way refl)
+down_where false no_way = refl
+
+-- no place is damaged where the store was up, or came up
+pub none_damaged : (up : Bool) (refusal : Option OpenError) → (up ≡ false → refusal ≡ None) → None ≡ damaged_in up refusal
+none_damaged true refusal came = refl
+none_damaged false refusal came = sym (ap (damaged_in false) (came refl))
+
+-- the place that recovery refused
+pub place_damaged : (up : Bool) (refusal : Option OpenError) (error : OpenError) → up ≡ false → refusal ≡ Some error → place_of error ≡ damaged_in up refusal
+place_damaged true refusal error down is = absurd (cc down)
+place_damaged false refusal error down is = sym (ap (damaged_in false) is)

@@ -20,7 +20,7 @@ fn stands_before(node: &Node, path: &[u8]) -> bool
 }
 
 /// How many nodes stand before a path in byte order, found by halving.
-fn place_of(nodes: &[Node], path: &[u8]) -> usize
+pub(crate) fn place_of(nodes: &[Node], path: &[u8]) -> usize
     requires { Ascends nodes.now }
     ensures { IsPlaceOf nodes.now path.now result }
 {
@@ -38,7 +38,7 @@ fn place_of(nodes: &[Node], path: &[u8]) -> usize
 }
 
 /// A node with that path stands at a place.
-fn stands_at(nodes: &[Node], at: usize, path: &[u8]) -> bool
+pub(crate) fn stands_at(nodes: &[Node], at: usize, path: &[u8]) -> bool
     ensures { IsTrue result ↔ HasPathAt nodes.now at path.now }
 {
     if at < nodes.len() {

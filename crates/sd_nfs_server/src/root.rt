@@ -28,18 +28,24 @@ fn looked_up(nodes: &[Node], number: u32) -> NfsResult
     }
 }
 
-fn lookup(nodes: &[Node], number: u32, node: &Node, name: &[u8]) -> NfsResult
+fn lookup(
+    alloc: Global,
+    nodes: &[Node],
+    number: u32,
+    node: &Node,
+    name: &[u8],
+) -> Result<NfsResult, NoMemory>
     requires fit { NodesFit nodes.now }
     requires low { 1 ≤ number }
     requires high { number ≤ length nodes.now }
-    ensures { result ≡ lookup nodes.now number node.now.path node.now.what name.now }
+    ensures { IfOk result (λ x. x ≡ lookup nodes.now number node.now.path node.now.what name.now) }
 {
     match &node.what {
-        Standing::Directory => match called(nodes, number, node.path.as_slice(), name) {
-            Some(found) => looked_up(nodes, found),
-            None => NfsResult::Refused { status: NOENT },
+        Standing::Directory => match called(alloc, nodes, number, node.path.as_slice(), name)? {
+            Some(found) => Ok(looked_up(nodes, found)),
+            None => Ok(NfsResult::Refused { status: NOENT }),
         },
-        _ => NfsResult::Refused { status: NOTDIR },
+        _ => Ok(NfsResult::Refused { status: NOTDIR }),
     }
 }
 
@@ -150,7 +156,7 @@ pub fn on_root(
         NfsArgs::Getattr { .. } => Ok(NfsResult::Getattr {
             attr: root_attributes(number, &node.what),
         }),
-        NfsArgs::Lookup { name, .. } => Ok(lookup(nodes, number, node, name.as_slice())),
+        NfsArgs::Lookup { name, .. } => Ok(lookup(alloc, nodes, number, node, name.as_slice())?),
         NfsArgs::Readlink { .. } => Ok(readlink(&node.what)?),
         NfsArgs::Read { offset, count, .. } => Ok(read(
             alloc, number, &node.what, *offset, *count,

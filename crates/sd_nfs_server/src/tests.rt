@@ -1,8 +1,4 @@
-//! Calls against tables, and acts on a store.
+//! Acts on a store.
 
-mod calls;
-mod rows;
-mod served;
 mod stores;
-mod texts;
 mod untold;

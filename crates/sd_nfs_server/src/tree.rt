@@ -36,7 +36,7 @@ impl Model for Tree {
 
 impl Tree {
     /// The live files of a configuration.
-    #[tactic(auto, using(sd_link::proofs::Numbering::one_export))]
+    #[tactic(auto, using(sd_services::proofs::Numbering::one_export))]
     pub fn build(alloc: Global, config: &Config) -> Result<Tree, NoMemory>
         requires { IsConfig config.now }
         ensures exports { IfOk result (λ tree. Exports config.now tree) }

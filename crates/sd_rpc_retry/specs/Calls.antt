@@ -19,7 +19,7 @@ use Rattle.sd_rpc_retry.specs.Asking.{IsAsked, IsAnswer}
 use Rattle.sd_rpc_retry.specs.Sending.{IsTallied}
 use Rattle.sd_rpc_retry.specs.Calling.{Verdict, request, hearing_of}
 
--- an answer and a refusal are what the first match tells; want of memory is free
+-- an answer and a refusal are what the first match tells; out of memory is free
 abbrev pub asked_as : Result Answer CallError → Result (Asked Verdict) NoMemory
 asked_as (Ok answer) = Ok (asked.Answer (Ok answer))
 asked_as (Err (error.Denied code)) = Ok (asked.Answer (Err code))

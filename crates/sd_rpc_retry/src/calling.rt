@@ -59,7 +59,7 @@ pub enum CallError {
     Denied { code: u32 },
     /// The link failed.
     LinkFault,
-    /// Want of memory.
+    /// Out of memory.
     NoMemory,
 }
 

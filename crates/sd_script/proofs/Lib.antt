@@ -12,3 +12,6 @@ pub mod RuleLemmas
 pub mod IdLemmas
 pub mod MachineLemmas
 pub mod RecordLemmas
+pub mod Deciding
+pub mod LineWays
+pub mod EitherWay

@@ -8,7 +8,7 @@ use Rattle.sd_link.specs.Printing.{entry_text}
 use Rattle.sd_link.specs.Steps as steps
 use Rattle.sd_script.specs.PacketWriting.{head_of_sent}
 
--- a front of what follows a head, behind the head, where more follows
+-- a prefix of what follows a head, behind the head, where more follows
 pub front_within : (old mid new head rest more whole : Text) → mid ≡ old ++ head → whole ≡ head ++ (rest ++ more) → AppendsFront mid new rest → AppendsFront old new whole
 front_within old mid new head rest more whole e is a = record {
   front = head ++ a.front;

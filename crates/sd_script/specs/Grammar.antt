@@ -161,7 +161,7 @@ pub record EndsEarly (text : Text) (n : ℕ) : Type 0 where
 abbrev pub IsFirstOutside : Text → ℕ → Type 0
 IsFirstOutside text n = IsRefusedLine text n ⊎ EndsEarly text n
 
--- what a refusal says of the text; want of memory says nothing
+-- what a refusal says of the text; out of memory says nothing
 abbrev pub IsScriptError : Text → ScriptError → Type 0
 IsScriptError text (errors.Line n) = IsFirstOutside text n
 IsScriptError text errors.NoMemory = Unit {0}

@@ -33,7 +33,7 @@ fn sent_head(alloc: Global, tick: u64, id: u64) -> Result<ByteList, NoMemory>
 }
 
 /// Writes the line of a packet that is sent at a tick under an id, with its line feed, at the end of a text.
-/// A refused call leaves a front part of it there.
+/// A refused call leaves a prefix of it there.
 pub fn write_sent(
     alloc: Global,
     tick: u64,

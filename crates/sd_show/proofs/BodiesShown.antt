@@ -107,7 +107,7 @@ handed seen src dst content m len e s other reads lt le within refuses means = (
   not_shown seen src dst content (moved (length content - len) (message_error e)) record { m = m; r = s; other = other; reads = reads; refuses = refuses; means = sym means },
 )
 
-from_start : (K : Kind whole) (by : ℕ) (bs : List ℕ) (s : MsgError) → Refuses whole K (0 + by) bs s → Refuses whole K by bs s
+pub from_start : (K : Kind whole) (by : ℕ) (bs : List ℕ) (s : MsgError) → Refuses whole K (0 + by) bs s → Refuses whole K by bs s
 from_start K by bs s h =
     let same : 0 + by ≡ by = omega arith in
     subst (λ (p : ℕ). Refuses whole K p bs s) same h

@@ -19,7 +19,7 @@ use Rattle.sd_show.specs.Calls.{procedure_of}
 use Rattle.sd_show.specs.Messages.{bare, read_as, asked_parts}
 use Rattle.sd_show.specs.Packing.{IsProcedure, AskedStands, CallStands, AuthsStand}
 use Rattle.sd_show.specs.Shapes.{flat}
-use Rattle.sd_show.proofs.Behind.{split, joined, procedure_again, procedure_shown, number_is, behind}
+use Rattle.sd_show.proofs.Behind.{split, joined, procedure_again, procedure_shown, number_is}
 use Rattle.sd_show.proofs.Names.{one_name}
 use Rattle.sd_show.proofs.Regrouping.{IsUnchecked}
 use Rattle.sd_show.proofs.KnownWords.{asked_unchecked, no_procedure}

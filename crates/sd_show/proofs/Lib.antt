@@ -39,3 +39,4 @@ pub mod PartsAgain
 pub mod MessageAgain
 pub mod ShownAgain
 pub mod FileTexts
+pub mod EitherWay

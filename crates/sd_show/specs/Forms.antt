@@ -4,7 +4,7 @@ use Rattle.std.specs.List.{concat}
 use Rattle.std.specs.Fmt.{decimal}
 use Rattle.hex.specs.Hex.{encode_lower}
 use Rattle.sd_outside.specs.Bytes.{IsBytes}
-use Rattle.sd_xdr.specs.Kind.{Word, any, between, allows, Opaque, fixed, upto, auth_body, part, Kind, word, opaque, list, ◌&◌, Value, none, number, bytes, ◌⊗◌, number_of, bytes_of, first, second}
+use Rattle.sd_xdr.specs.Kind.{Word, allows, Opaque, fixed, upto, auth_body, part, Kind, word, opaque, list, ◌&◌, Value, none, number, bytes, ◌⊗◌, number_of, bytes_of, first, second}
 use Rattle.sd_bootparams.specs.Layout.{ip, ip_value}
 use Rattle.sd_text.specs.Texts.{Text, ip_text, IsNumber, IsIp}
 use Rattle.sd_text.specs.Runs.{runs_text, IsRuns}

@@ -1,5 +1,5 @@
 -- What holds of the texts of packets. The functions of src/laws.rt have these as their contracts.
-use Rattle.std.specs.Prelude.{◌≡◌, List, []}
+use Rattle.std.specs.Prelude.{◌≡◌, ◌⊎◌, List, []}
 use Rattle.sd_outside.specs.declared.packet.Packet.{Packet}
 use Rattle.sd_text.specs.Texts.{Text}
 use Rattle.sd_show.specs.Words.{words}
@@ -17,6 +17,10 @@ OneText = (seen : List Heard) (packet : Packet) (s t : Text) → Shows seen pack
 -- A packet that has a text is not refused.
 abbrev pub NeverBoth : Type 0
 NeverBoth = (seen : List Heard) (packet : Packet) (text : Text) (e : ShowError) → Shows seen packet text → HasNoText seen packet e → ⊥
+
+-- A packet of the code has a text or is refused.
+abbrev pub EitherWay : Type 0
+EitherWay = (seen : List Heard) (packet : Packet) → IsPacket packet → ((text : Text) × Shows seen packet text) ⊎ ((e : ShowError) × HasNoText seen packet e)
 
 -- A text is of one packet.
 abbrev pub OnePacket : Type 0

@@ -129,7 +129,7 @@ abbrev pub HasNoText : List Heard → Packet → ShowError → Type 0
 HasNoText seen (Udp src dst content) e = IsNoFile src dst content e ⊎ (IsNoMessage src dst content e ⊎ HasNoBody seen src dst content e)
 HasNoText seen (Frame bytes) e = (r : RarpError) × (reading bytes ≡ Err r) × (e ≡ frame_error r)
 
--- What a refusal says; want of memory says nothing.
+-- What a refusal says; out of memory says nothing.
 abbrev pub IsRefused : List Heard → Packet → ShowError → Type 0
 IsRefused seen packet (Bad word at) = HasNoText seen packet (Bad word at)
 IsRefused seen packet NoMemory = Unit {0}

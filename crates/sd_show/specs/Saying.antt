@@ -1,5 +1,5 @@
 -- Words for the functions that write and read the fields of arguments and results.
-use Rattle.std.specs.Prelude.{◌≡◌, ℕ, ◌<◌, ◌≤◌, Bool, List, [], ◌∷◌, ◌++◌, length, Option, Some, None, Result, Ok, Err, if◌then◌else◌}
+use Rattle.std.specs.Prelude.{◌≡◌, ℕ, ◌≤◌, Bool, List, [], ◌∷◌, ◌++◌, length, Option, Some, None, Result, Ok, Err, if◌then◌else◌}
 use denote.Ref.{Bor}
 use Rattle.sd_outside.specs.Bytes.{IsBytes}
 use Rattle.sd_xdr.specs.declared.error.MsgError.{MsgError}
@@ -19,7 +19,7 @@ use Rattle.sd_text.specs.Answers.{OnOutside}
 use Rattle.sd_show.specs.declared.procedures.Procedure.{Procedure}
 use Rattle.sd_show.specs.declared.procedures.Known.{Known}
 use Rattle.sd_show.specs.declared.fields.Field.{Field}
-use Rattle.sd_show.specs.Forms.{Form, form_kind, form_text, quoted_byte, quoted, IsFormText}
+use Rattle.sd_show.specs.Forms.{Form, form_kind, form_text, quoted, IsFormText}
 use Rattle.sd_show.specs.Fields.{Fields, nothing, field, ◌⊕◌, checked, fields_kind, fields_parts}
 use Rattle.sd_show.specs.Programs.{numbers, args_kind, results_kind}
 use Rattle.sd_show.specs.Parts.{BeginWith}
@@ -34,14 +34,9 @@ pub record IsQuoted (most : ℕ) (text : Text) (bs : List ℕ) : Type 0 where
   pub bytes : IsBytes bs
   pub within : length bs ≤ most
 
--- the byte that a text begins with between quotation marks, and what follows it
-abbrev pub BeginsWith : Text → Option (ℕ × Bor (List ℕ)) → Type 0
-BeginsWith text (Some found) = (found.0 < 256) × (text ≡ quoted_byte found.0 ++ found.1.now)
-BeginsWith text None = (b : ℕ) (rest : Text) → b < 256 → text ≡ quoted_byte b ++ rest → ⊥
-
 -- ---- writing what is read
 
--- what a refusal says; want of memory says nothing
+-- what a refusal says; out of memory says nothing
 abbrev pub OnRefusal : MsgError → Type 0 → Type 0
 OnRefusal NoMemory P = Unit {0}
 OnRefusal (Xdr e) P = P

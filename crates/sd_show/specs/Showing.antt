@@ -14,7 +14,7 @@ use Rattle.sd_show.specs.Programs.{numbers, IsUnknown}
 use Rattle.sd_show.specs.Calls.{answered}
 use Rattle.sd_show.specs.Refused.{IsNoFile, IsNoMessage, HasNoBody}
 
--- what refusals say; want of memory says nothing
+-- what refusals say; out of memory says nothing
 abbrev pub IsFileRefused : Addr → Addr → List ℕ → ShowError → Type 0
 IsFileRefused src dst content (Bad word at) = IsNoFile src dst content (Bad word at)
 IsFileRefused src dst content NoMemory = Unit {0}

@@ -66,7 +66,7 @@ impl Word {
     }
 }
 
-/// A refusal with its place in the body of the datagram or in the frame, or want of memory.
+/// A refusal with its place in the body of the datagram or in the frame, or out of memory.
 #[derive(Clone, Copy, Debug, PartialEq, Eq)]
 pub enum ShowError {
     Bad { word: Word, at: u64 },

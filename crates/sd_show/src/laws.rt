@@ -1,10 +1,15 @@
 //! What holds of the texts of packets, each on a function that does nothing: the contract is the law.
 
-ghost use Rattle.sd_show.specs.Laws.{OneText, NeverBoth, OnePacket, ShownIsPacked, PackedIsShown};
+ghost use Rattle.sd_show.specs.Laws.{OneText, EitherWay, NeverBoth, OnePacket, ShownIsPacked, PackedIsShown};
 
 /// A packet has one text.
 pub fn one_text()
     ensures { OneText }
+{}
+
+/// A packet has a text or is refused.
+pub fn either_way()
+    ensures { EitherWay }
 {}
 
 /// A packet that has a text is not refused.

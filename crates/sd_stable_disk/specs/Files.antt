@@ -8,11 +8,12 @@ use Rattle.sd_stable_disk.specs.Image.{sizes_told, opens, held, total, is_open, 
 use Rattle.sd_stable_disk.specs.declared.errors.OpenError.{OpenError}
 use Rattle.sd_stable_disk.specs.declared.errors.OpenError.TheVariants.{DiskFault, NoMemory, Damaged, Version}
 
--- a store: its disk, the sizes of its files, and whether it is up
+-- a store: its disk, the sizes of its files, whether it is up, and what the latest recovery was refused for, if it was
 pub record Stored (D : Type 0) : Type 0 where
   pub disk : D
   pub sizes : List ℕ
   pub up : Bool
+  pub refusal : Option OpenError
 
 -- the files, where the disk tells what a read gives
 abbrev pub files : {D : Type 0} → (D → Option (List ℕ)) → Stored D → Option (List (List ℕ))

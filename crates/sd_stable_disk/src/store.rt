@@ -1,6 +1,7 @@
 //! Files on a disk, as callers see them.
-ghost use Rattle.std.specs.Prelude.{◌≡◌, ◌≢◌, ◌⊎◌, ◌↔◌, ◌+◌, ◌<◌, ◌≤◌, ℕ, [], length, map, true, false, slice_index, slice_index_or, is_ok, OnOk, IfOk, IfErr, IfSome, IsOk, IsErr, IsTrue, IsSome, Some, Err};
+ghost use Rattle.std.specs.Prelude.{◌≡◌, ◌≢◌, ◌⊎◌, ◌↔◌, ◌+◌, ◌<◌, ◌≤◌, ℕ, [], length, map, true, false, slice_index, slice_index_or, is_ok, OnOk, IfOk, IfErr, IfSome, IsOk, IsErr, IsTrue, IsSome, Some, None, Err};
 ghost use Rattle.std.specs.Option.{option_map, option_and_then};
+ghost use Rattle.std.specs.Result.{result_err};
 ghost use Rattle.sd_outside.specs.Ranges.{part};
 ghost use Rattle.sd_outside.specs.Causes.{HasCause};
 ghost use Rattle.sd_outside.specs.Disk.{Only, LeavesOnly};
@@ -19,14 +20,15 @@ use sd_outside::{Disk, NoMemory, StopDisk};
 use std::alloc::Global;
 use std::marker::Model;
 
-/// Files on a disk. It is up, or down since a write or a recovery failed. A contract sees its disk, the sizes of its files, and
-/// whether it is up; the files are what its disk holds as it reads.
+/// Files on a disk. It is up, or down since a write or a recovery failed. A contract sees its disk, the sizes of its files,
+/// whether it is up, and what the latest recovery was refused for; the files are what its disk holds as it reads.
 #[derive(Drop)]
 pub struct Store<D: Disk> {
     disk: D,
     buffer: Vec<u8>,
     sizes: Vec<u64>,
     up: bool,
+    refusal: Option<OpenError>,
 }
 
 impl<D: Disk> Model for Store<D> {
@@ -35,7 +37,7 @@ impl<D: Disk> Model for Store<D> {
 
     ghost Value = { Stored D };
 
-    ghost view = { λ store. record { disk = store.disk; sizes = store.sizes.items; up = store.up } };
+    ghost view = { λ store. record { disk = store.disk; sizes = store.sizes.items; up = store.up; refusal = store.refusal } };
 
     ghost invariant = { λ store. IsSound D.Disk.size D.Disk.seen D.Disk.may_leave store.disk store.sizes.items store.up × (length store.buffer.items ≡ 8256) };
 }
@@ -51,6 +53,7 @@ impl<D: Disk> Store<D> {
     /// meanwhile leaves these files, or what a crash could leave before. The one buffer is taken here.
     pub fn open(alloc: Global, mut disk: D) -> Result<Store<D>, (OpenError, D)>
         ensures up { IfOk result (λ store. store.up ≡ true) }
+        ensures refusal { IfOk result (λ store. store.refusal ≡ None) }
         ensures files { IfOk result (λ store. files D.seen store ≡ option_and_then held (D.seen disk)) }
         ensures sizes { IfOk result (λ store. IfSome (files D.seen store) (λ files. store.sizes ≡ map (λ file. length file) files)) }
         ensures readable { IfOk result (λ store. IfSome (D.seen disk) (λ image. IsOk (opens image))) }
@@ -77,6 +80,7 @@ impl<D: Disk> Store<D> {
                 buffer,
                 sizes,
                 up: true,
+                refusal: None,
             }),
             Err(error) => Err((error, disk)),
         }
@@ -105,6 +109,7 @@ impl<D: Disk> Store<D> {
             buffer: _,
             sizes: _,
             up: _,
+            refusal: _,
         } = self;
         disk
     }
@@ -120,6 +125,7 @@ impl<D: Disk> Store<D> {
         ensures files { files D.seen self.new ≡ files D.seen self.old }
         ensures up { self.new.up ≡ true }
         ensures sizes { self.new.sizes ≡ self.old.sizes }
+        ensures refusal { self.new.refusal ≡ self.old.refusal }
         ensures durable { OnlyHolds (files D.seen self.old) (may_hold D.may_leave self.new) }
         ensures moments { LeavesOnly (λ store. D.moment store.disk) (held_since D.left_since) self.old self.new (λ left. left ≡ files D.seen self.old) }
         ensures none { length into.old ≡ 0 → (self.new ≡ self.old) × IsOk result }
@@ -147,6 +153,7 @@ impl<D: Disk> Store<D> {
         ensures durable { OnOk result (OnlyHolds (files D.seen self.new) (may_hold D.may_leave self.new)) }
         ensures up { self.new.up ≡ is_ok result }
         ensures sizes { self.new.sizes ≡ self.old.sizes }
+        ensures refusal { self.new.refusal ≡ self.old.refusal }
 
         // Whatever the answer, there is the whole write or none of it, also after a crash at any moment of the call.
         ensures files { IsEither file at bytes.now (files D.seen self.old) (files D.seen self.new) }
@@ -173,6 +180,7 @@ impl<D: Disk> Store<D> {
     pub fn recover(&mut self) -> Result<(), OpenError>
         ensures up { self.new.up ≡ is_ok result }
         ensures sizes { self.new.sizes ≡ self.old.sizes }
+        ensures refusal { self.new.refusal ≡ result_err result }
         ensures files { files D.seen self.new ≡ files D.seen self.old }
         ensures durable { OnOk result (OnlyHolds (files D.seen self.new) (may_hold D.may_leave self.new)) }
         ensures crash { (left : _) → may_hold D.may_leave self.new left → may_hold D.may_leave self.old left ⊎ (left ≡ files D.seen self.old) }
@@ -186,10 +194,19 @@ impl<D: Disk> Store<D> {
         ensures cause { HasFault (D.faults self.old.disk) (D.faults self.new.disk) (result ≡ Err OpenFault) }
     {
         self.up = false;
+        self.refusal = Some(OpenError::DiskFault);
         self.disk.sync()?;
-        settle_journal(&mut self.disk, &mut self.buffer, &self.sizes)?;
-        self.up = true;
-        Ok(())
+        match settle_journal(&mut self.disk, &mut self.buffer, &self.sizes) {
+            Ok(()) => {
+                self.up = true;
+                self.refusal = None;
+                Ok(())
+            }
+            Err(error) => {
+                self.refusal = Some(error);
+                Err(error)
+            }
+        }
     }
 }
 
@@ -200,6 +217,7 @@ impl<D: StopDisk> Store<D> {
         ensures files { files D.Disk.seen self.new ≡ files D.Disk.seen self.old }
         ensures up { self.new.up ≡ self.old.up }
         ensures sizes { self.new.sizes ≡ self.old.sizes }
+        ensures refusal { self.new.refusal ≡ self.old.refusal }
         ensures crash { (left : _) → may_hold D.Disk.may_leave self.new left ↔ may_hold D.Disk.may_leave self.old left }
         ensures tells { D.Disk.tells_crash self.new.disk ≡ D.Disk.tells_crash self.old.disk }
         ensures plan { Both Begins (D.Disk.plan self.old.disk) (D.Disk.plan self.new.disk) }
@@ -215,6 +233,7 @@ impl<D: StopDisk> Store<D> {
         ensures files { files D.Disk.seen self.new ≡ files D.Disk.seen self.old }
         ensures up { self.new.up ≡ self.old.up }
         ensures sizes { self.new.sizes ≡ self.old.sizes }
+        ensures refusal { self.new.refusal ≡ self.old.refusal }
         ensures crash { (left : _) → may_hold D.Disk.may_leave self.new left ↔ may_hold D.Disk.may_leave self.old left }
         ensures tells { D.Disk.tells_crash self.new.disk ≡ D.Disk.tells_crash self.old.disk }
         ensures plan { Both (Stops (D.Disk.tells_crash self.old.disk) changes) (D.Disk.plan self.old.disk) (D.Disk.plan self.new.disk) }

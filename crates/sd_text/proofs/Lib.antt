@@ -9,13 +9,14 @@ pub mod ItemLemmas
 pub mod MacLemmas
 pub mod PacketLemmas
 pub mod ReadBack
-mod Leading
-mod Again
-mod Sound
-mod Whole
-mod Meanings
-mod RunWords
-mod InnerBytes
-mod Loops
-mod Writes
-mod OneText
+pub mod Leading
+pub mod Again
+pub mod Sound
+pub mod Whole
+pub mod Meanings
+pub mod RunWords
+pub mod InnerBytes
+pub mod Loops
+pub mod Writes
+pub mod OneText
+pub mod Deciding

@@ -36,7 +36,7 @@ udp_read line args (Err NoMemory) e h = tt
 pub udp_text : (src dst : Addr) (body : List ℕ) → packet_text (Udp src dst body) ≡ head_of_udp src dst ++ runs_text body
 udp_text src dst body = simp append_assoc
 
--- a front of what follows a head, behind the head
+-- a prefix of what follows a head, behind the head
 pub front_behind : (old mid new head rest : Text) → mid ≡ old ++ head → AppendsFront mid new rest → AppendsFront old new (head ++ rest)
 front_behind old mid new head rest e a = record {
   front = head ++ a.front;

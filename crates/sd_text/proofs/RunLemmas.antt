@@ -69,7 +69,7 @@ before-before p q [] = refl
 before-before p q (pairs more ∷ items) = rw append_assoc refl
 before-before p q (repeated b n ∷ items) = refl
 
--- one more short run after a front of the bytes
+-- one more short run after a prefix of the bytes
 pub short_run_more : (bytes : List ℕ) (at run : ℕ) → at < length bytes → run ≡ run_length (drop at bytes) → run < 4
     → normal_items bytes ≡ before (take at bytes) (normal_items (drop at bytes))
     → normal_items bytes ≡ before (take (at + run) bytes) (normal_items (drop (at + run) bytes))

@@ -43,7 +43,7 @@ runs_text-some : (bytes : List ℕ) → 0 < length bytes → runs_text bytes ≡
 runs_text-some [] h = absurd (omega arith)
 runs_text-some (b ∷ bytes) h = refl
 
--- A front of the whole text is written, and the rest are the bytes that it leaves.
+-- A prefix of the whole text is written, and the rest are the bytes that it leaves.
 pub record IsWriting (old now whole : Text) (rest : List ℕ) : Type 0 where
   pub front : Text
   pub parts : whole ≡ front ++ dotted (normal_items rest)

@@ -48,7 +48,7 @@ pub record IsUdpLine (args : List Text) (packet : Packet) : Type 0 where
 abbrev pub IsPacketLine : Text → Packet → Type 0
 IsPacketLine line packet = (args : List Text) × (((fields line ≡ codes "frame" ∷ args) × IsFrameLine args packet) ⊎ ((fields line ≡ codes "udp" ∷ args) × IsUdpLine args packet))
 
--- what a refusal says of the text; want of memory says nothing
+-- what a refusal says of the text; out of memory says nothing
 abbrev pub IsPacketLineError : Text → PacketLineError → Type 0
 IsPacketLineError line errors.BadPacket = (packet : Packet) → IsPacketLine line packet → ⊥
 IsPacketLineError line errors.NoMemory = Unit {0}

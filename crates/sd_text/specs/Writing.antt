@@ -27,7 +27,7 @@ pub record WritesItem (bytes : List ℕ) (old : Text) (rest : List ℕ) (new : T
   pub shorter : length rest < length bytes
   pub appended : new ≡ old ++ item_text item
 
--- the text has a front part of more at its end
+-- the text has a prefix of more at its end
 pub record AppendsFront (old new more : Text) : Type 0 where
   pub front : Text
   pub rest : Text

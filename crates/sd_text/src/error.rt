@@ -11,11 +11,11 @@ use std::alloc::{AllocError, AllocFailed};
 pub enum PacketLineError {
     /// It is none, or it has too many bytes.
     BadPacket,
-    /// Want of memory.
+    /// Out of memory.
     NoMemory,
 }
 
-/// Why a line, or a part of one, isn't read: it is outside the grammar, or want of memory.
+/// Why a line, or a part of one, isn't read: it is outside the grammar, or out of memory.
 #[derive(Debug, Drop)]
 pub enum LineError {
     Outside,

@@ -1,6 +1,6 @@
 //! What holds of every kind that is clear, each on a function that does nothing: the contract is the law.
 
-ghost use Rattle.std.specs.Prelude.{◌≡◌, ◌<◌, ◌^◌, false, List, ℕ, length};
+ghost use Rattle.std.specs.Prelude.{◌≡◌, ◌⊎◌, ◌<◌, ◌^◌, false, List, ℕ, length};
 ghost use Rattle.hex.specs.Hex.{IsBytes};
 ghost use Rattle.sd_outside.specs.declared.packet.Packet.{Packet};
 ghost use Rattle.sd_text.specs.Runs.{runs_text, IsRuns};
@@ -50,8 +50,9 @@ pub fn runs_are_read_again()
     ensures again { (bytes : List ℕ) → IsBytes bytes → length bytes < 2 ^ 64 → IsRuns (runs_text bytes) bytes }
 {}
 
-/// A packet line is that of one packet, and the line that is written for a packet within the limits is its own.
+/// A line is that of one packet or of none, and the line that is written for a packet within the limits is its own.
 pub fn packet_lines_are_read_again()
     ensures one { (line : List ℕ) (a b : Packet) → IsPacketLine line a → IsPacketLine line b → a ≡ b }
+    ensures either { (line : List ℕ) → ((packet : Packet) × IsPacketLine line packet) ⊎ ((packet : Packet) → IsPacketLine line packet → ⊥) }
     ensures again { (packet : Packet) → IsPacket packet → IsPacketLine (packet_text packet) packet }
 {}

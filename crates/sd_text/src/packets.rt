@@ -74,7 +74,7 @@ fn udp_head(alloc: Global, src: Addr, dst: Addr) -> Result<ByteList, NoMemory>
     Ok(text)
 }
 
-/// Writes the text of a packet, without a line feed. A refused call leaves a front part of it there.
+/// Writes the text of a packet, without a line feed. A refused call leaves a prefix of it there.
 pub fn write_packet_line(
     alloc: Global,
     packet: &Packet,

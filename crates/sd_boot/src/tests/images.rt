@@ -13,7 +13,8 @@ const HEAD: [u8; 24] = [
     0,
 ];
 
-fn one_file(alloc: Global) -> Result<ByteList, NoMemory> {
+/// The image of one file of 16,384 zeros.
+pub fn one_file(alloc: Global) -> Result<ByteList, NoMemory> {
     image_of(alloc, &[16384])
 }
 

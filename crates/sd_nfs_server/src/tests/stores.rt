@@ -23,7 +23,7 @@ pub fn zeros(alloc: Global) -> Result<ByteList, NoMemory> {
 }
 
 /// A store with a swap file of 16,384 zeros, whose changes and reads of these numbers fail.
-pub fn store_of(alloc: Global, changes: &[u64], reads: &[u64]) -> Result<Store<MemDisk>, Fail> {
+fn store_of(alloc: Global, changes: &[u64], reads: &[u64]) -> Result<Store<MemDisk>, Fail> {
     let image = zeros(alloc)?;
     let disk = MemDisk::new(alloc, image.as_slice(), changes, reads)?;
     match Store::open(alloc, disk) {

@@ -84,7 +84,7 @@ fn write_item<'a>(alloc: Global, bytes: &'a [u8], text: &mut ByteList) -> Result
     }
 }
 
-/// Writes the byte run text of some bytes at the end of a text. A refused call leaves a front part of it there.
+/// Writes the byte run text of some bytes at the end of a text. A refused call leaves a prefix of it there.
 pub fn write_runs(alloc: Global, bytes: &[u8], text: &mut ByteList) -> Result<(), NoMemory>
     ensures ok { OnOk result (text.new ≡ text.old ++ runs_text bytes.now) }
     ensures err { OnErr result (AppendsFront text.old text.new (runs_text bytes.now)) }

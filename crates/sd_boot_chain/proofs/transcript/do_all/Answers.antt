@@ -91,7 +91,7 @@ returns-in_err-text-clause-cut g c = λ all quiet.
     (λ a b xs ys goes s t is_for. session_cut commands i before so_far a xs ys (s is_for).session)
     was (goes_on (g.L.Link.told c.loop-command.link) (g.L.Link.told c.text_of.new.link) most_ticks c.text_of.ensures.lasts))
 
--- the sink took a front of the step's text
+-- the sink took a prefix of the step's text
 pub returns-in-Err-clause-cut : goal.returns-in-Err-clause-cut
 returns-in-Err-clause-cut g c = λ all quiet.
     let config = c.args.client.now.config in

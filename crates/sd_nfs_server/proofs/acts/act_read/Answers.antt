@@ -1,10 +1,12 @@
-use Rattle.std.proofs.Common.{◌≡◌, ◌⊎◌, inr, ap, ◌∙◌}
-use Rattle.std.specs.Result.{is_err}
-use Rattle.std.specs.Prelude.{None}
+use Rattle.std.proofs.Common.{◌≡◌, ◌⊎◌, inr, ap, subst, ◌∙◌}
+use Rattle.std.proofs.lemmas.Bool.{false≢true}
+use Rattle.std.specs.Result.{is_err, result_err}
+use Rattle.std.specs.Prelude.{None, IsOk}
 use Rattle.sd_outside.proofs.MakesLaws.{plan_then}
 use Rattle.sd_stable_disk.specs.Files.{files, may_hold, held_since}
 use Rattle.sd_nfs_server.specs.Acts.{IsFault}
-use Rattle.sd_nfs_server.proofs.Storing.{leaves_then}
+use Rattle.sd_nfs_server.specs.declared.acts.Acted.{Acted}
+use Rattle.sd_nfs_server.proofs.Storing.{leaves_then, down_where, none_damaged, place_damaged}
 use Rattle.sd_nfs_server.proofs.acts.act_read.Goals as goal
 
 pub returns-in-Ok-read-clause-durable : goal.returns-in-Ok-read-clause-durable
@@ -43,3 +45,17 @@ returns-in-Err-DiskFault-clause-plan g c =
     let p = g.D.Disk.plan in
     plan_then (p c.args.store.now.disk) (p c.rise.new.store.disk) (p c.read.new.self.disk) 5 3 0 1 _ _ (IsFault (record { status = 5; damaged = None }))
     (λ fault. ap is_err c.in-Err-DiskFault.is) c.rise.ensures.plan c.read.ensures.plan
+
+pub returns-in-Err-DiskFault-clause-durable : goal.returns-in-Err-DiskFault-clause-durable
+returns-in-Err-DiskFault-clause-durable g c = λ up left held. c.read.ensures.durable left held ∙ c.rise.ensures.files
+
+pub returns-in-Ok-read-clause-damaged : goal.returns-in-Ok-read-clause-damaged
+returns-in-Ok-read-clause-damaged g c = none_damaged _ _ (λ down. c.read.ensures.refusal ∙ c.rise.ensures.refusal down ∙ ap result_err c.in-Ok.is)
+
+pub returns-in-Err-DiskFault-clause-damaged : goal.returns-in-Err-DiskFault-clause-damaged
+returns-in-Err-DiskFault-clause-damaged g c = none_damaged _ _ (λ down. c.read.ensures.refusal ∙ c.rise.ensures.refusal down ∙ ap result_err c.in-Ok.is)
+
+pub returns-in-Err-clause-damaged : goal.returns-in-Err-clause-damaged
+returns-in-Err-clause-damaged g c =
+    let down = down_where c.args.store.now.up (λ up. false≢true (subst IsOk c.in-Err.is (c.rise.ensures.kept up).1)) in
+    ap (λ (a : Acted). a.damaged) c.refused.ensures ∙ place_damaged _ _ _ down (c.rise.ensures.refusal down ∙ ap result_err c.in-Err.is)

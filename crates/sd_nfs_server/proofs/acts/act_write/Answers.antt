@@ -1,10 +1,12 @@
-use Rattle.std.proofs.Common.{◌≡◌, ◌⊎◌, inr, ap, subst}
-use Rattle.std.specs.Result.{is_err}
-use Rattle.std.specs.Prelude.{None}
+use Rattle.std.proofs.Common.{◌≡◌, ◌⊎◌, inl, inr, ap, subst, ◌∙◌}
+use Rattle.std.proofs.lemmas.Bool.{false≢true}
+use Rattle.std.specs.Result.{is_err, result_err}
+use Rattle.std.specs.Prelude.{None, IsOk}
 use Rattle.sd_outside.proofs.MakesLaws.{plan_then}
 use Rattle.sd_stable_disk.specs.Files.{files, may_hold, held_since, IsEither}
 use Rattle.sd_nfs_server.specs.Acts.{IsFault}
-use Rattle.sd_nfs_server.proofs.Storing.{leaves_then, leaves_weaker, kept_or}
+use Rattle.sd_nfs_server.specs.declared.acts.Acted.{Acted}
+use Rattle.sd_nfs_server.proofs.Storing.{leaves_then, leaves_weaker, kept_or, down_where, none_damaged, place_damaged}
 use Rattle.sd_nfs_server.proofs.acts.act_write.Goals as goal
 
 pub returns-in-Ok-write-clause-crash : goal.returns-in-Ok-write-clause-crash
@@ -67,3 +69,21 @@ returns-in-Err-clause-moments g c =
     leaves_weaker (λ store. g.D.Disk.moment store.disk) (held_since g.D.Disk.left_since) old c.rise.new.store
     (λ left. may_hold g.D.Disk.may_leave old left ⊎ IsEither 0 at bytes (files seen old) left) (λ left. may_hold g.D.Disk.may_leave old left ⊎ (left ≡ files seen old))
     (λ left. kept_or 0 at bytes (may_hold g.D.Disk.may_leave old left) (files seen old) left) c.rise.ensures.moments
+
+pub returns-in-Err-DiskFault-clause-apart : goal.returns-in-Err-DiskFault-clause-apart
+returns-in-Err-DiskFault-clause-apart g c = λ failed. inr (λ left held. subst (λ old. IsEither 0 c.args.at c.args.bytes.now old left) c.rise.ensures.files (c.write.ensures.crash left held))
+
+pub returns-in-Err-clause-apart : goal.returns-in-Err-clause-apart
+returns-in-Err-clause-apart g c =
+    λ failed. inl (down_where c.args.store.now.up (λ up. false≢true (subst IsOk c.in-Err.is (c.rise.ensures.kept up).1)), c.rise.ensures.files, c.rise.ensures.crash)
+
+pub returns-in-Ok-write-clause-damaged : goal.returns-in-Ok-write-clause-damaged
+returns-in-Ok-write-clause-damaged g c = none_damaged _ _ (λ down. c.write.ensures.refusal ∙ c.rise.ensures.refusal down ∙ ap result_err c.in-Ok.is)
+
+pub returns-in-Err-DiskFault-clause-damaged : goal.returns-in-Err-DiskFault-clause-damaged
+returns-in-Err-DiskFault-clause-damaged g c = none_damaged _ _ (λ down. c.write.ensures.refusal ∙ c.rise.ensures.refusal down ∙ ap result_err c.in-Ok.is)
+
+pub returns-in-Err-clause-damaged : goal.returns-in-Err-clause-damaged
+returns-in-Err-clause-damaged g c =
+    let down = down_where c.args.store.now.up (λ up. false≢true (subst IsOk c.in-Err.is (c.rise.ensures.kept up).1)) in
+    ap (λ (a : Acted). a.damaged) c.refused.ensures ∙ place_damaged _ _ _ down (c.rise.ensures.refusal down ∙ ap result_err c.in-Err.is)

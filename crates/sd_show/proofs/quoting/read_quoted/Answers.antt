@@ -1,32 +1,25 @@
-use Rattle.std.proofs.Common.{◌≡◌, ◌∷◌, ◌++◌, [], ◌∙◌}
+use Rattle.std.proofs.Common.{◌≡◌, None}
 use Rattle.std.proofs.lemmas.Result.{err_from_is_err_and}
-use Rattle.sd_text.specs.Texts.{Text}
-use Rattle.sd_show.specs.Saying.{IsQuoted}
+use Rattle.sd_xdr.specs.Kind.{Value, bytes}
+use Rattle.sd_text.specs.Kind as kinds
+use Rattle.sd_text.specs.Reading.{reading, whole_end}
 use Rattle.sd_text.proofs.Exits.{outside_exit}
-use Rattle.sd_show.proofs.Quotes.{some_left, nothing_left, quoting_goes_on, quoting_stops, quoting_full, quoting_ends, quoted_is, spelled}
+use Rattle.sd_show.specs.Saying.{IsQuoted}
+use Rattle.sd_show.proofs.Quotes.{not_read, not_ended, quoted_read}
 use Rattle.sd_show.proofs.quoting.read_quoted.Goals as goal
 
-pub returns-in_err-inner : goal.returns-in_err-inner
-returns-in_err-inner c =
+pub returns-in_err-bytes : goal.returns-in_err-bytes
+returns-in_err-bytes c =
     let p = err_from_is_err_and c.from_residual.result c.from_residual.ensures.1 in
-    outside_exit ((inner : Text) → c.args.text.now ≡ 34 ∷ (inner ++ 34 ∷ []) → ⊥) (IsQuoted c.args.most c.args.text.now) p.1 p.2 c.in_err-inner.ensures
-    (λ none bs h. none (spelled bs) (h.is ∙ quoted_is bs))
+    outside_exit (reading (kinds.quoted c.args.most) c.new-reader.result ≡ None) (IsQuoted c.args.most c.args.text.now) p.1 p.2 c.in_err-bytes.ensures.takes
+    (λ none. not_read c.args.most c.new-reader.result c.args.text.now c.new-reader.ensures none)
 
-pub returns-in_default : goal.returns-in_default
-returns-in_default c =
-    quoting_stops c.args.most c.args.text.now c.in_ok-inner.inner.now c.reading.left.now c.reading.bytes c.reading.count c.reading.invariant c.in_ok-inner.ensures
-    (some_left c.reading.left.now c.is_empty.result c.is_empty.ensures c.reading-test.true) (c.in_default.ensures)
-
-pub returns-then-count-most : goal.returns-then-count-most
-returns-then-count-most c =
-    quoting_full c.args.most c.args.text.now c.in_ok-inner.inner.now c.reading.left.now c.reading.bytes c.reading.count c.reading.invariant c.in_ok-inner.ensures
-    (some_left c.reading.left.now c.is_empty.result c.is_empty.ensures c.reading-test.true) c.if-count-most.true
-
-pub reading-preserved : goal.reading-preserved
-reading-preserved c =
-    quoting_goes_on c.args.most c.in_ok-inner.inner.now c.reading.left.now c.in-Some.rest.now c.reading.bytes c.push_slice.new.self c.reading.count c.in-Some.byte c.reading.invariant
-    (c.in-Some.ensures).0 (c.in-Some.ensures).1 c.in_ok-push_slice.ensures.ok c.if-count-most.false
+pub returns-in_err-end : goal.returns-in_err-end
+returns-in_err-end c =
+    let p = err_from_is_err_and c.from_residual-in_err-end.result c.from_residual-in_err-end.ensures.1 in
+    outside_exit ((x : Value) → whole_end (x, c.quoted.new.self) ≡ None) (IsQuoted c.args.most c.args.text.now) p.1 p.2 c.in_err-end.ensures
+    (λ none. not_ended c.args.most c.new-reader.result c.args.text.now c.quoted.new.self (bytes c.in_ok-bytes.bytes) c.new-reader.ensures c.in_ok-bytes.ensures.takes none)
 
 pub returns : goal.returns
-returns c = quoting_ends c.args.most c.args.text.now c.in_ok-inner.inner.now c.reading.left.now c.reading.bytes c.reading.count c.reading.invariant c.in_ok-inner.ensures
-    (nothing_left c.reading.left.now c.is_empty.result c.is_empty.ensures c.reading-test.false)
+returns c =
+    quoted_read c.args.most c.new-reader.result c.args.text.now c.quoted.new.self c.in_ok-bytes.bytes c.new-reader.ensures c.in_ok-bytes.ensures.takes c.in_ok-end.ensures c.in_ok-bytes.ensures.range

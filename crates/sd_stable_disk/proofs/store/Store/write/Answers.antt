@@ -173,7 +173,7 @@ returns-in_err-journal-clause-moments g c =
     let crash = subst (λ (e : List ℕ). (image : List ℕ) → g.D.Disk.may_leave c.journal.new.disk image → Midway 1024 e o image) entry c.journal.ensures.crash in
     let moments = subst (λ (e : List ℕ). LeavesOnly g.D.Disk.moment g.D.Disk.left_since d0 c.journal.new.disk (Midway 1024 e o)) entry c.journal.ensures.moments in
     let midst = journal_seen sizes file at bytes below inside small_file small_at some short o p rest both in
-    let new : Stored g.row.D.Denot = record { disk = c.journal.new.disk; sizes = sizes; up = false } in
+    let new : Stored g.row.D.Denot = record { disk = c.journal.new.disk; sizes = sizes; up = false; refusal = c.self.inside.refusal } in
     subst (λ (s : Stored g.row.D.Denot). LeavesOnly (λ store. g.D.Disk.moment store.disk) (held_since g.D.Disk.left_since) s new (IsEither file at bytes (files seen s))) c.self.view_is
     (leaves_held g.D.Disk.moment g.D.Disk.left_since _ new _ _ moments (λ image midway. journal_crash sizes file at bytes below inside small_file small_at some short o image rest midway))
 
@@ -322,7 +322,7 @@ returns-in_err-home-clause-moments g c =
     λ image midway. inr (opens_held p image (home_crash sizes file at bytes below inside short p image waits.0 midway) ∙ waits.1) in
     let both_runs = leaves_then g.D.Disk.moment g.D.Disk.left_since d0 c.journal.new.disk c.home.new.disk _ _ (λ image. IsEither file at bytes (held_in o) (held image)) jmoments hmoments
     (λ image midway. journal_crash sizes file at bytes below inside small_file small_at some short o image rest midway) after in
-    let new : Stored g.row.D.Denot = record { disk = c.home.new.disk; sizes = sizes; up = false } in
+    let new : Stored g.row.D.Denot = record { disk = c.home.new.disk; sizes = sizes; up = false; refusal = c.self.inside.refusal } in
     subst (λ (s : Stored g.row.D.Denot). LeavesOnly (λ store. g.D.Disk.moment store.disk) (held_since g.D.Disk.left_since) s new (IsEither file at bytes (files seen s))) c.self.view_is
     (leaves_held g.D.Disk.moment g.D.Disk.left_since _ new _ _ both_runs (λ image either. either))
 
@@ -486,7 +486,7 @@ returns-clause-moments g c =
     λ image midway. inr (opens_held p image (home_crash sizes file at bytes below inside short p image waits.0 midway) ∙ waits.1) in
     let both_runs = leaves_then g.D.Disk.moment g.D.Disk.left_since d0 c.journal.new.disk c.home.new.disk _ _ (λ image. IsEither file at bytes (held_in o) (held image)) jmoments hmoments
     (λ image midway. journal_crash sizes file at bytes below inside small_file small_at some short o image rest midway) after in
-    let new : Stored g.row.D.Denot = record { disk = c.home.new.disk; sizes = sizes; up = true } in
+    let new : Stored g.row.D.Denot = record { disk = c.home.new.disk; sizes = sizes; up = true; refusal = c.self.inside.refusal } in
     subst (λ (s : Stored g.row.D.Denot). LeavesOnly (λ store. g.D.Disk.moment store.disk) (held_since g.D.Disk.left_since) s new (IsEither file at bytes (files seen s))) c.self.view_is
     (leaves_held g.D.Disk.moment g.D.Disk.left_since _ new _ _ both_runs (λ image either. either))
 

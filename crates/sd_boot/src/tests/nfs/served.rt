@@ -1,10 +1,10 @@
 //! Calls from their plan to their answer, over a store.
 
-use crate::tests::rows::TREE;
-use crate::tests::stores::store_of;
-use crate::tests::texts::{address, answer_text, call_of, tree_of};
-use crate::{Acted, NfsPlan, Tree, act_read, act_write, bring_up, plan_nfs};
+use crate::tests::images::one_file;
+use crate::tests::nfs::rows::TREE;
+use crate::tests::nfs::texts::{address, answer_text, call_of, tree_of};
 use sd_nfs_msg::{NfsArgs, NfsResult};
+use sd_nfs_server::{Acted, NfsPlan, Tree, act_read, act_write, bring_up, plan_nfs};
 use sd_outside::{ByteList, MemDisk};
 use sd_stable_disk::Store;
 use std::alloc::Global;
@@ -39,6 +39,16 @@ other write 1.1 8193 8192 | 5
 client write 1.1 8193 8192 | 5
 client write 1.1 8193 8192 | 28
 client read 1.1 0 1 | read 1 33152 1 16384 32 2 1 00";
+
+/// A store with a swap file of 16,384 zeros, whose changes and reads of these numbers fail.
+fn store_of(alloc: Global, changes: &[u64], reads: &[u64]) -> Result<Store<MemDisk>, Fail> {
+    let image = one_file(alloc)?;
+    let disk = MemDisk::new(alloc, image.as_slice(), changes, reads)?;
+    match Store::open(alloc, disk) {
+        Ok(store) => Ok(store),
+        Err(_) => Err("refused")?,
+    }
+}
 
 /// Does what a plan of a READ or WRITE of the swap file asks of the store.
 fn act(

@@ -1,7 +1,7 @@
 //! Calls from texts, and texts of what is planned.
 
-use crate::{NfsPlan, Tree};
 use sd_nfs_msg::{FHandle, Fattr, NfsArgs, NfsResult, Sattr};
+use sd_nfs_server::{NfsPlan, Tree};
 use sd_outside::ByteList;
 use sd_script::read_script;
 use std::alloc::Global;

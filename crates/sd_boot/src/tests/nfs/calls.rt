@@ -1,8 +1,8 @@
 //! The tables.
 
-use crate::tests::rows::{BARE, BARE_CALLS, CALLS, NO_ROOT, NO_ROOT_CALLS, TREE};
-use crate::tests::texts::{address, call_of, handle, plan_text, tree_of};
-use crate::{fhandle_of, plan_nfs};
+use crate::tests::nfs::rows::{BARE, BARE_CALLS, CALLS, NO_ROOT, NO_ROOT_CALLS, TREE};
+use crate::tests::nfs::texts::{address, call_of, handle, plan_text, tree_of};
+use sd_nfs_server::{fhandle_of, plan_nfs};
 use std::alloc::Global;
 use std::process::Abort;
 use std::test::Fail;
