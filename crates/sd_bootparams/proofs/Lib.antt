@@ -14,3 +14,4 @@ pub mod Found
 pub mod Unbroken
 pub mod Ip
 pub mod Twice
+pub mod Knowing

@@ -5,5 +5,6 @@ pub mod BookView
 pub mod File
 pub mod FileLaws
 pub mod LineByLine
+pub mod Known
 pub mod Judging
 pub mod Tables

@@ -10,7 +10,7 @@ use crate::params::{Entry, Params, ParamsError, Why};
 use crate::words::{
     Pieces, bare, begins_comment, cut_once, goes_on, has, is_text, same, split_line,
 };
-use sd_outside::ByteList;
+use sd_outside::{ByteList, NoMemory};
 use std::alloc::Global;
 
 /// What the next word is.
@@ -53,16 +53,6 @@ pub(crate) fn is_entry(entry: &Entry, client: &[u8], key: &[u8]) -> bool
     same(entry.client.as_slice(), client) && same(entry.key.as_slice(), key)
 }
 
-/// Whether the client has an entry with this key.
-fn has_key(params: &Params, client: &[u8], key: &[u8]) -> bool
-    ensures { result ≡ has_key params.now client.now key.now }
-{
-    params
-        .entries()
-        .iter()
-        .any(|entry| is_entry(entry, client, key))
-}
-
 fn is_too_long(key: &[u8], server: &[u8], path: &[u8]) -> bool
     ensures { result ≡ is_too_long key.now server.now path.now }
 {
@@ -82,11 +72,29 @@ fn add_client(alloc: Global, params: &mut Params, line: u64, text: &[u8]) -> Res
     if text.len() > 255 {
         return bad(line, Why::TooLong);
     }
-    if has_client(params, text) {
-        return bad(line, Why::DoubleClient);
+    if params.add_client(alloc, ByteList::from_slice(alloc, text)?)? {
+        Ok(())
+    } else {
+        bad(line, Why::DoubleClient)
     }
-    params.push_client(ByteList::from_slice(alloc, text)?)?;
-    Ok(())
+}
+
+/// An entry of copies.
+fn entry_of(
+    alloc: Global,
+    client: &[u8],
+    key: &[u8],
+    server: &[u8],
+    path: &[u8],
+) -> Result<Entry, NoMemory>
+    ensures { IfOk result (λ entry. entry ≡ record { client = client.now; key = key.now; server = server.now; path = path.now }) }
+{
+    Ok(Entry {
+        client: ByteList::from_slice(alloc, client)?,
+        key: ByteList::from_slice(alloc, key)?,
+        server: ByteList::from_slice(alloc, server)?,
+        path: ByteList::from_slice(alloc, path)?,
+    })
 }
 
 /// An item of a client.
@@ -111,16 +119,12 @@ fn add_item(
     if is_too_long(key, server, path) {
         return bad(line, Why::TooLong);
     }
-    if has_key(params, client, key) {
-        return bad(line, Why::DoubleKey);
+    let entry = entry_of(alloc, client, key, server, path)?;
+    if params.add_entry(alloc, entry)? {
+        Ok(())
+    } else {
+        bad(line, Why::DoubleKey)
     }
-    params.push_entry(Entry {
-        client: ByteList::from_slice(alloc, client)?,
-        key: ByteList::from_slice(alloc, key)?,
-        server: ByteList::from_slice(alloc, server)?,
-        path: ByteList::from_slice(alloc, path)?,
-    })?;
-    Ok(())
 }
 
 /// The next word.

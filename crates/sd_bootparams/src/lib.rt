@@ -8,6 +8,7 @@
 
 mod book;
 mod draft;
+mod known;
 mod laws;
 mod message;
 mod params;

@@ -1,9 +1,10 @@
 //! What a bootparams file says.
 
-ghost use Rattle.std.specs.Prelude.{◌≡◌, [], ◌∷◌, ◌++◌, OnOk};
-ghost use Rattle.sd_bootparams.specs.File.{nothing};
+ghost use Rattle.std.specs.Prelude.{◌≡◌, not, [], ◌∷◌, ◌++◌, IfOk, OnOk, if◌then◌else◌};
+ghost use Rattle.sd_bootparams.specs.File.{nothing, has_client, has_key};
 
-use sd_outside::{ByteList, ListOf, NoMemory};
+use crate::known::{Clients, Items};
+use sd_outside::{ByteList, NoMemory};
 use std::alloc::Global;
 use std::marker::Model;
 
@@ -41,8 +42,8 @@ pub struct Entry {
 /// What a file says: the clients that have a line, and the entries of all of them, in the order of the file.
 #[derive(Debug, Drop)]
 pub struct Params {
-    clients: ListOf<ByteList>,
-    entries: ListOf<Entry>,
+    clients: Clients,
+    entries: Items,
 }
 
 impl Model for Params {
@@ -59,8 +60,8 @@ impl Params {
         ensures { result ≡ nothing }
     {
         Params {
-            clients: ListOf::empty(alloc),
-            entries: ListOf::empty(alloc),
+            clients: Clients::empty(alloc),
+            entries: Items::empty(alloc),
         }
     }
 
@@ -76,18 +77,22 @@ impl Params {
         self.entries.as_slice()
     }
 
-    pub(crate) fn push_client(&mut self, client: ByteList) -> Result<(), NoMemory>
-        ensures clients { OnOk result (self.new.clients ≡ self.old.clients ++ (client ∷ [])) }
+    /// Adds a client, unless it has a line. Whether it is new.
+    pub(crate) fn add_client(&mut self, alloc: Global, client: ByteList) -> Result<bool, NoMemory>
+        ensures is_new { IfOk result (λ is_new. is_new ≡ not (has_client self.old client)) }
+        ensures added { IfOk result (λ is_new. self.new.clients ≡ (if is_new then self.old.clients ++ (client ∷ []) else self.old.clients)) }
         ensures entries { OnOk result (self.new.entries ≡ self.old.entries) }
     {
-        self.clients.push(client)
+        self.clients.add(alloc, client)
     }
 
-    pub(crate) fn push_entry(&mut self, entry: Entry) -> Result<(), NoMemory>
+    /// Adds an entry, unless its client has one with its key. Whether it is new.
+    pub(crate) fn add_entry(&mut self, alloc: Global, entry: Entry) -> Result<bool, NoMemory>
+        ensures is_new { IfOk result (λ is_new. is_new ≡ not (has_key self.old entry.client entry.key)) }
+        ensures added { IfOk result (λ is_new. self.new.entries ≡ (if is_new then self.old.entries ++ (entry ∷ []) else self.old.entries)) }
         ensures clients { OnOk result (self.new.clients ≡ self.old.clients) }
-        ensures entries { OnOk result (self.new.entries ≡ self.old.entries ++ (entry ∷ [])) }
     {
-        self.entries.push(entry)
+        self.entries.add(alloc, entry)
     }
 }
 

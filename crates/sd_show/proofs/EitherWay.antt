@@ -25,6 +25,8 @@ use Rattle.sd_rarp.specs.declared.frame.RarpError.{RarpError}
 use Rattle.sd_rarp.specs.Frame.{reading}
 use Rattle.sd_rarp.proofs.Spelling as frames
 use Rattle.sd_text.specs.Texts.{Text}
+use Rattle.sd_text.proofs.Deciding as ways
+use Rattle.sd_text.proofs.Deciding.{Settled}
 use Rattle.sd_show.specs.declared.error.ShowError.{ShowError}
 use Rattle.sd_show.specs.declared.procedures.Procedure.{Procedure}
 use Rattle.sd_show.specs.declared.procedures.Known.{Known}
@@ -144,7 +146,7 @@ message_told x h =
 
 -- ---- procedures that are known by name
 
-same_numbers : (p q : Procedure) → (p ≡ q) ⊎ (p ≡ q → ⊥)
+same_numbers : (p q : Procedure) → Settled (p ≡ q)
 same_numbers p q = elim (cases_eq p.prog q.prog) [
   | inl a ↦ elim (cases_eq p.vers q.vers) [
     | inl b ↦ elim (cases_eq p.proc_no q.proc_no) [
@@ -156,18 +158,19 @@ same_numbers p q = elim (cases_eq p.prog q.prog) [
   | inr a ↦ inr (λ e. a (ap (λ (r : Procedure). r.prog) e))
 ]
 
-abbrev IsKnownWay : Procedure → Type 0
-IsKnownWay p = ((k : Known) × (numbers k ≡ p)) ⊎ IsUnknown p
-
-search_known : (p : Procedure) (left at : ℕ) → length all_known ≤ at + left → NoneBefore (λ (k : Known). numbers k ≡ p) all_known at → IsKnownWay p
-search_known p zero at le before = inr (none_ends (λ (k : Known). numbers k ≡ p) all_known at refl (omega (arith, le)) before)
-search_known p (suc left) at le before = elim (same_numbers (numbers (get_or all_known at known.PmapNull)) p) [
+search_known : (P : Known → Type 0) → ((k : Known) → Settled (P k)) → (left at : ℕ) → length all_known ≤ at + left → NoneBefore P all_known at → ways.Way P
+search_known P each zero at le before = inr (none_ends P all_known at refl (omega (arith, le)) before)
+search_known P each (suc left) at le before = elim (each (get_or all_known at known.PmapNull)) [
   | inl is ↦ inl (get_or all_known at known.PmapNull, is)
-  | inr other ↦ search_known p left (at + 1) (omega (arith, le)) (none_goes_on (λ (k : Known). numbers k ≡ p) all_known at before other)
+  | inr other ↦ search_known P each left (at + 1) (omega (arith, le)) (none_goes_on P all_known at before other)
 ]
 
-known_way : (p : Procedure) → IsKnownWay p
-known_way p = search_known p (length all_known) 0 (omega arith) (none_begins (λ (k : Known). numbers k ≡ p) all_known)
+-- one of the procedures has this property, or none
+pub one_of_known : (P : Known → Type 0) → ((k : Known) → Settled (P k)) → ways.Way P
+one_of_known P each = search_known P each (length all_known) 0 (omega arith) (none_begins P all_known)
+
+pub known_way : (p : Procedure) → ways.Way (λ (k : Known). numbers k ≡ p)
+known_way p = one_of_known (λ (k : Known). numbers k ≡ p) (λ k. same_numbers (numbers k) p)
 
 -- ---- bodies
 

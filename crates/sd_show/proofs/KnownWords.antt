@@ -92,7 +92,7 @@ results_top known.NfsRmdir = tt
 results_top known.NfsReaddir = (tt, tt)
 results_top known.NfsStatfs = (tt, (tt, (tt, (tt, tt))))
 
-numbers_fit : (k : Known) → AreWords (numbers k)
+pub numbers_fit : (k : Known) → AreWords (numbers k)
 numbers_fit known.PmapNull = (omega arith, omega arith, omega arith)
 numbers_fit known.PmapSet = (omega arith, omega arith, omega arith)
 numbers_fit known.PmapUnset = (omega arith, omega arith, omega arith)

@@ -40,3 +40,5 @@ pub mod MessageAgain
 pub mod ShownAgain
 pub mod FileTexts
 pub mod EitherWay
+pub mod FormWays
+pub mod PackWays

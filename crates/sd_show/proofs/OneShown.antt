@@ -32,8 +32,8 @@ use Rattle.sd_show.specs.Calls.{procedure_of, answered}
 use Rattle.sd_show.specs.Parts.{frame_parts, parts_text}
 use Rattle.sd_show.specs.Messages.{Body, bare, read_as, AreArgs, AreResults, IsOutcomeBody, IsBody, message_parts, datagram_parts}
 use Rattle.sd_show.specs.Shown.{file_parts, ShowsFile, ShowsMessage}
-use Rattle.sd_show.specs.Refused.{AreResultsRefused, IsBodyRefused, IsNoFile, IsNoMessage, HasNoBody}
-use Rattle.sd_show.specs.Laws.{OneText, NeverBoth}
+use Rattle.sd_show.specs.Refused.{message_error, file_error, frame_error, AreResultsRefused, IsBodyRefused, IsNoFile, IsNoMessage, HasNoBody}
+use Rattle.sd_show.specs.Laws.{OneText, NeverBoth, OneRefusal, OneTextRefusal}
 use Rattle.sd_show.proofs.OneKnown.{one_known}
 
 -- ---- one body
@@ -162,3 +162,51 @@ never_both seen (Frame bytes) text e h k = no_frame h.0 k.0 (sym (spelled bytes 
   where
     no_frame : (f : RarpFrame) (r : RarpError) → ◌≡◌ {A = Result RarpFrame RarpError} (Ok f) (Err r) → ⊥
     no_frame f r e = cc
+
+-- ---- one refusal
+
+same_refusal : (kind : Known → Kind whole) (j k : Known) (at : ℕ) (bs : List ℕ) (q r : MsgError) → numbers j ≡ numbers k → Refuses whole (kind j) at bs q → Refuses whole (kind k) at bs r → q ≡ r
+same_refusal kind j k at bs q r e h g = xdr.one_refusal whole (kind k) at bs q r (subst (λ (i : Known). Refuses whole (kind i) at bs q) (one_known j k e) h) g
+
+same_results : (len : ℕ) (asked : Option Procedure) (o : Outcome) (q r : MsgError) → AreResultsRefused len asked o q → AreResultsRefused len asked o r → q ≡ r
+same_results len asked (Success verf bs) q r h g = same_refusal results_kind h.0 g.0 (len - length bs) bs q r (some_is (numbers h.0) (numbers g.0) (sym h.1 ∙ g.1)) h.2 g.2
+  where
+    some_is : (p q : Procedure) → ◌≡◌ {A = Option Procedure} (Some p) (Some q) → p ≡ q
+    some_is p q e = cc
+same_results len asked (ProgUnavail verf) q r h g = absurd h
+same_results len asked (ProgMismatch verf low high) q r h g = absurd h
+same_results len asked (ProcUnavail verf) q r h g = absurd h
+same_results len asked (GarbageArgs verf) q r h g = absurd h
+same_results len asked (RpcMismatch low high) q r h g = absurd h
+same_results len asked (AuthError stat) q r h g = absurd h
+
+same_body : (seen : List Heard) (src dst : Addr) (len : ℕ) (m : Message) (q r : MsgError) → IsBodyRefused seen src dst len m q → IsBodyRefused seen src dst len m r → q ≡ r
+same_body seen src dst len (Asked c) q r h g = same_refusal args_kind h.0 g.0 (len - length c.args) c.args q r (h.1 ∙ sym g.1) h.2 g.2
+same_body seen src dst len (Answered a) q r h g = same_results len (answered a.xid src dst seen) a.outcome q r h g
+
+abbrev Refused : List Heard → Addr → Addr → List ℕ → ShowError → Type 0
+Refused seen src dst content e = IsNoFile src dst content e ⊎ (IsNoMessage src dst content e ⊎ HasNoBody seen src dst content e)
+
+one_of_refusals : (seen : List Heard) (src dst : Addr) (content : List ℕ) (d e : ShowError) → Refused seen src dst content d → Refused seen src dst content e → d ≡ e
+one_of_refusals seen src dst content d e (inl h) (inl k) = h.means ∙ ap file_error (tftp.one_refusal content h.r k.r h.refuses k.refuses) ∙ sym k.means
+one_of_refusals seen src dst content d e (inl h) (inr (inl k)) = absurd (false≢true (sym k.other ∙ h.port))
+one_of_refusals seen src dst content d e (inl h) (inr (inr k)) = absurd (false≢true (sym k.other ∙ h.port))
+one_of_refusals seen src dst content d e (inr (inl h)) (inl k) = absurd (false≢true (sym h.other ∙ k.port))
+one_of_refusals seen src dst content d e (inr (inr h)) (inl k) = absurd (false≢true (sym h.other ∙ k.port))
+one_of_refusals seen src dst content d e (inr (inl h)) (inr (inl k)) = h.means ∙ ap message_error (xdr.one_refusal whole message 0 content h.r k.r h.refuses k.refuses) ∙ sym k.means
+one_of_refusals seen src dst content d e (inr (inl h)) (inr (inr k)) = absurd (xdr.never_both message content (message_value k.m) h.r k.reads h.refuses)
+one_of_refusals seen src dst content d e (inr (inr h)) (inr (inl k)) = absurd (xdr.never_both message content (message_value h.m) k.r h.reads k.refuses)
+one_of_refusals seen src dst content d e (inr (inr h)) (inr (inr k)) =
+    let same : h.m ≡ k.m = one_message content h.m k.m h.reads k.reads in
+    let refuses : IsBodyRefused seen src dst (length content) k.m h.r = subst (λ (m : Message). IsBodyRefused seen src dst (length content) m h.r) same h.refuses in
+    h.means ∙ ap message_error (same_body seen src dst (length content) k.m h.r k.r refuses k.refuses) ∙ sym k.means
+
+pub one_refusal : OneRefusal
+one_refusal seen (Udp src dst content) d e h k = one_of_refusals seen src dst content d e h k
+one_refusal seen (Frame bytes) d e h k = h.2 ∙ ap frame_error (same_error h.0 k.0 (sym h.1 ∙ k.1)) ∙ sym k.2
+  where
+    same_error : (q r : RarpError) → ◌≡◌ {A = Result RarpFrame RarpError} (Err q) (Err r) → q ≡ r
+    same_error q r e = cc
+
+pub one_text_refusal : OneTextRefusal
+one_text_refusal text d e h k = h.0 ∙ sym k.0

@@ -71,7 +71,7 @@ escape_small b c d h =
     omega (arith, digit_small c q.0, digit_small d r.0)
 
 -- the bytes of these, if there are some, are bytes
-abbrev AreSmall : Option (List ℕ) → Type 0
+abbrev pub AreSmall : Option (List ℕ) → Type 0
 AreSmall None = Unit {0}
 AreSmall (Some bs) = IsBytes bs
 
@@ -89,7 +89,7 @@ escape_onto b c d o p true w e f k l = onto_small b o (plain_small b e) k
 escape_onto b c d o p false true e f k l = onto_small (hex_byte c d) p (escape_small b c d f) l
 escape_onto b c d o p false false e f k l = tt
 
-inner_small : (t : Text) → AreSmall (inner_value t)
+pub inner_small : (t : Text) → AreSmall (inner_value t)
 unfolding inner_value
 inner_small [] = λ i. omega arith
 inner_small (b ∷ []) = plain_onto b (inner_value []) (is_plain b) refl (inner_small [])
@@ -122,7 +122,7 @@ not_read most old text same e bs h = not_quoted most text bs (none_if most old t
 pub not_ended : (most : ℕ) (old text left : Text) (x : Value) → old ≡ text → reading (kinds.quoted most) old ≡ Some (x, left) → ((y : Value) → whole_end (y, left) ≡ None) → (bs : List ℕ) → IsQuoted most text bs → ⊥
 not_ended most old text left x same e none bs h = not_quoted most text bs (whole_if most old text left x same e ∙ none x) h
 
-inner_read : (most : ℕ) (t : Text) (x : Value) → Reads (kinds.quoted most) t x → (s : Text) × (word_value (kinds.inner most) s ≡ Some x)
+pub inner_read : (most : ℕ) (t : Text) (x : Value) → Reads (kinds.quoted most) t x → (s : Text) × (word_value (kinds.inner most) s ≡ Some x)
 inner_read most t x (reads_between a b (reads_word s p e)) = (s, e)
 
 sized_small : (p : ℕ → Bool) (o : Option (List ℕ)) (bs : List ℕ) → AreSmall o → sized p o ≡ Some (bytes bs) → IsBytes bs

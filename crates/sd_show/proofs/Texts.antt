@@ -75,7 +75,7 @@ host_taken : (f g : Text) (x : Mac × ℕ) (old new : List Text) → outside.IsM
 host_taken f g x old new is js h =
     (h.0, h.4.0, h.2 ∙ ap (λ (u : List Text). h.0 ∷ u) (h.4.2 ∙ ap (λ (u : List Text). h.4.0 ∷ u) h.4.4), mac_read f h.0 x.0 is h.3, named_ip_read g h.4.0 x.1 js h.4.3)
 
-frame_stands : (f : RarpFrame) (old new : List Text) → FrameStands f old new → IsFrame f × BeginWith (kind_parts f) old new
+pub frame_stands : (f : RarpFrame) (old new : List Text) → FrameStands f old new → IsFrame f × BeginWith (kind_parts f) old new
 frame_stands (Request dst src sender target) old new h =
     let a = macs_stand (codes "dst=") (codes "src=") (dst, src) h.0 h.2.0 h.2.1 in
     let b = macs_stand (codes "sender=") (codes "target=") (sender, target) h.2.0 new h.2.2 in (

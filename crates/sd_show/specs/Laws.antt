@@ -8,7 +8,7 @@ use Rattle.sd_text.specs.Packets.{IsPacket}
 use Rattle.sd_show.specs.declared.error.ShowError.{ShowError}
 use Rattle.sd_show.specs.Parts.{Part, parts_text, BeginWith}
 use Rattle.sd_show.specs.Shown.{Shows, Packs, IsWritten}
-use Rattle.sd_show.specs.Refused.{HasNoText}
+use Rattle.sd_show.specs.Refused.{HasNoText, HasNoPacket}
 
 -- A packet has one text behind the same calls.
 abbrev pub OneText : Type 0
@@ -22,9 +22,21 @@ NeverBoth = (seen : List Heard) (packet : Packet) (text : Text) (e : ShowError) 
 abbrev pub EitherWay : Type 0
 EitherWay = (seen : List Heard) (packet : Packet) → IsPacket packet → ((text : Text) × Shows seen packet text) ⊎ ((e : ShowError) × HasNoText seen packet e)
 
+-- A packet is refused for one reason behind the same calls.
+abbrev pub OneRefusal : Type 0
+OneRefusal = (seen : List Heard) (packet : Packet) (d e : ShowError) → HasNoText seen packet d → HasNoText seen packet e → d ≡ e
+
 -- A text is of one packet.
 abbrev pub OnePacket : Type 0
 OnePacket = (text : Text) (p q : Packet) → Packs text p → Packs text q → p ≡ q
+
+-- Every text is that of a packet, or has a refusal.
+abbrev pub EitherPacked : Type 0
+EitherPacked = (text : Text) → ((packet : Packet) × Packs text packet) ⊎ ((e : ShowError) × HasNoPacket text e)
+
+-- A text has one refusal.
+abbrev pub OneTextRefusal : Type 0
+OneTextRefusal = (text : Text) (d e : ShowError) → HasNoPacket text d → HasNoPacket text e → d ≡ e
 
 -- The text that a packet within the limits has is a text of its written form.
 abbrev pub ShownIsPacked : Type 0

@@ -134,6 +134,10 @@ abbrev pub IsRefused : List Heard → Packet → ShowError → Type 0
 IsRefused seen packet (Bad word at) = HasNoText seen packet (Bad word at)
 IsRefused seen packet NoMemory = Unit {0}
 
+-- The text is of no packet, and its refusal is `line` at 0.
+abbrev pub HasNoPacket : Text → ShowError → Type 0
+HasNoPacket text e = (e ≡ not_a_line) × ((packet : Packet) → Packs text packet → ⊥)
+
 abbrev pub IsNotPacked : Text → ShowError → Type 0
-IsNotPacked text (Bad word at) = (Bad word at ≡ not_a_line) × ((packet : Packet) → Packs text packet → ⊥)
+IsNotPacked text (Bad word at) = HasNoPacket text (Bad word at)
 IsNotPacked text NoMemory = Unit {0}

@@ -1,6 +1,6 @@
 //! What holds of the texts of packets, each on a function that does nothing: the contract is the law.
 
-ghost use Rattle.sd_show.specs.Laws.{OneText, EitherWay, NeverBoth, OnePacket, ShownIsPacked, PackedIsShown};
+ghost use Rattle.sd_show.specs.Laws.{OneText, EitherWay, NeverBoth, OneRefusal, OnePacket, EitherPacked, OneTextRefusal, ShownIsPacked, PackedIsShown};
 
 /// A packet has one text.
 pub fn one_text()
@@ -15,6 +15,17 @@ pub fn either_way()
 /// A packet that has a text is not refused.
 pub fn never_both()
     ensures { NeverBoth }
+{}
+
+/// A packet is refused for one reason behind the same calls, and so is a text.
+pub fn one_refusal()
+    ensures shown { OneRefusal }
+    ensures packed { OneTextRefusal }
+{}
+
+/// Every text is that of a packet or is refused.
+pub fn either_packed()
+    ensures { EitherPacked }
 {}
 
 /// A text is of one packet.

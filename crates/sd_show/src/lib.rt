@@ -24,7 +24,10 @@ mod taking;
 
 pub use calls::Seen;
 pub use error::{ShowError, Word};
-pub use laws::{either_way, never_both, one_packet, one_text, packed_is_shown, shown_is_packed};
+pub use laws::{
+    either_packed, either_way, never_both, one_packet, one_refusal, one_text, packed_is_shown,
+    shown_is_packed,
+};
 pub use packets::{pack_line, show_line};
 
 #[cfg(test)]

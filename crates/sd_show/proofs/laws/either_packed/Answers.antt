@@ -1,0 +1,5 @@
+use Rattle.sd_show.proofs.PackWays.{either_packed}
+use Rattle.sd_show.proofs.laws.either_packed.Goals as goal
+
+pub returns : goal.returns
+returns c = either_packed
