@@ -3,14 +3,13 @@ use Rattle.std.proofs.Common.{◌≡◌, ℕ, ◌<◌, List, [], length, Option,
 use Rattle.std.specs.Prelude.{IfOk, IfSome}
 use Rattle.sd_link.specs.Lawful.{IsFrontOf}
 use Rattle.sd_script.specs.Limits.{input_limit}
-use Rattle.sd_claims.specs.Headline.{Writes}
-use Rattle.sd_boot_chain.proofs.Gaining.{gains_nothing}
+use Rattle.sd_streams.proofs.Gaining.{gains_nothing}
 use Rattle.sd_boot.specs.declared.status.Ended.{Ended}
 use Rattle.sd_boot.specs.declared.status.Ended.TheVariants.{Done}
 use Rattle.sd_boot.specs.declared.status.Stop.{Stop}
 use Rattle.sd_boot.specs.declared.status.Stop.TheVariants.{SourceFault, SinkFault, NoMemory}
 use Rattle.sd_boot.specs.Input.{IsRead}
-use Rattle.sd_boot.specs.Play.{GainsSome}
+use Rattle.sd_streams.specs.Writing.{GainsSome, Writes}
 
 module _ (P : Result Ended Stop → List ℕ → List ℕ → Type 0) where
   -- what a front that passes the limit is owed, the whole is

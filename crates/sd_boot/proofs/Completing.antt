@@ -1,5 +1,6 @@
 -- In a calm script each command is ok.
 use Rattle.std.proofs.Common.{◌≡◌, ℕ, ◌*◌, ◌==◌, ◌≤◌, Bool, true, false, cond, List, [], ◌∷◌, ◌++◌, length, Some, None, refl, sym, ◌∙◌, ap, subst, arith, append_assoc, length-append}
+use Rattle.std.proofs.lemmas.Grind.{flat_map-append}
 use Rattle.std.proofs.lemmas.List.{append-nil}
 use Rattle.std.specs.Prelude.{◌≢◌}
 use Rattle.std.specs.List.{flat_map, AllByRecursion}
@@ -8,11 +9,13 @@ use Rattle.sd_config.specs.declared.config.Config.{Config}
 use Rattle.sd_config.specs.declared.events.Fate.{Fate}
 use Rattle.sd_config.specs.declared.stage.Stage.TheVariants as stage
 use Rattle.sd_config.specs.Config.{IsConfig}
-use Rattle.sd_config.specs.Events.{Fates, fates_of, fate_in}
+use Rattle.sd_config.specs.Events.{Fates, fate_in}
+use Rattle.sd_config.specs.Plan.{plan_of}
+use Rattle.sd_config.proofs.Lists.{all_split}
 use Rattle.sd_link.specs.World.{World, start}
-use Rattle.sd_link.specs.Steps.{Step, Send, Get, Entry, Sent, Served, Got, after, entries_of, run, record_of, AllAllowed, goes_to_client}
-use Rattle.sd_link.specs.Parts.{sends_in, got_in, ticks_in}
-use Rattle.sd_link.specs.Lawful.{IsLawful, AllInTurn, InTurn, AllGot, Settles, SendsSettled, IsFrontOf, got_at, due_to_client}
+use Rattle.sd_link.specs.Steps.{Step, Send, Get, Entry, Got, after, entries_of, run, record_of, AllAllowed, goes_to_client}
+use Rattle.sd_link.specs.Parts.{sends_in, got_in, ticks_in, fails_in}
+use Rattle.sd_link.specs.Lawful.{IsLawful, AllInTurn, InTurn, AllGot, Settles, SendsSettled, IsFrontOf, to_client, id_at, got_at, due_to_client}
 use Rattle.sd_link.proofs.Histories.{run-append, allowed-split, record-append, sends-append, got-append, ticks-append}
 use Rattle.sd_script.specs.declared.script.Script.{Script}
 use Rattle.sd_config.specs.declared.command.Command.{Command}
@@ -22,7 +25,7 @@ use Rattle.sd_config.specs.declared.told.Told.TheVariants.{AddrOk, AddrTimeout, 
 use Rattle.sd_link.specs.Tries.{AreUnmatched, RepliesAtOnce, beyond}
 use Rattle.sd_claims.specs.Rarp.{Learned, rarp_hearing, learned_from}
 use Rattle.sd_claims.specs.Booting.{Counts, LearnsAddress, first_counts}
-use Rattle.sd_claims.specs.Causes.{Cause, addr_ok, addr_timeout, addr_flood, boot_unbuilt, boot_timeout_rarp, boot_timeout_tftp, boot_timeout_call, boot_flood_rarp, boot_flood_tftp, boot_flood_call, boot_denied, boot_refused, boot_no_port, boot_too_large, wait_ok, wait_flood, AddressTimedOut, AddressFlooded, counts_after}
+use Rattle.sd_claims.specs.Causes.{Cause, addr_ok, addr_timeout, addr_flood, boot_unbuilt, boot_timeout_rarp, boot_timeout_tftp, boot_timeout_call, boot_flood_rarp, boot_flood_tftp, boot_flood_call, boot_denied, boot_refused, boot_no_port, boot_too_large, wait_ok, wait_flood, addr_linkfault, boot_linkfault, wait_linkfault, AddressTimedOut, AddressFlooded, faults_told}
 use Rattle.sd_claims.specs.Waiting.{Waited, WaitFlooded}
 use Rattle.sd_claims.specs.Transcript.{Done, AllCaused}
 use Rattle.sd_claims.specs.Ending.{Ends, AllEnd}
@@ -31,6 +34,7 @@ use Rattle.sd_claims.specs.Headline.{IsCalm, IsOk}
 use Rattle.sd_rpc_retry.proofs.Settling.{silent-settled}
 use Rattle.sd_rpc_retry.proofs.Getting.{sends_nothing}
 use Rattle.sd_boot.proofs.Stages.{Stages, AllGo, Rests, pause_few, pause_rests, Spaced, spaced_tries, thin_first, tries_rest, reply_waits}
+use Rattle.sd_boot.proofs.Unplanned.{IsCalmStep, calm_run, calm_fails}
 use Rattle.sd_boot.proofs.Following.{plain, request_of, reply_of, tells, Stands, stands_start, none_waits, due_length, Followed, follow}
 
 in_turn-split : (c : Config) (fates : Fates) (w : World) (entries : List Entry) (xs ys : List Step) → AllInTurn c fates w entries (xs ++ ys)
@@ -41,15 +45,9 @@ in_turn-split c fates w entries (x ∷ xs) ys all =
     ((all.0, s.0), subst (λ (l : List Entry). AllInTurn c fates (run c (after c w x) xs) l ys) (append_assoc entries (entries_of c w x) (record_of c (after c w x) xs)) s.1)
 
 got-then : (t : ℕ) (xs : List Entry) (id : ℕ) → got_at t (xs ++ Got t id ∷ []) ≡ got_at t xs ++ id ∷ []
-got-then t [] id = let now : (t == t) ≡ true = grind arith in ap (λ (b : Bool). cond b (id ∷ []) []) now
-got-then t (Sent u i p ∷ xs) id = got-then t xs id
-got-then t (Served u i ∷ xs) id = got-then t xs id
-got-then t (Got u i ∷ xs) id = of (u == t) (got-then t xs id)
-  where
-    of : (b : Bool) → got_at t (xs ++ Got t id ∷ []) ≡ got_at t xs ++ id ∷ []
-        → cond b (i ∷ got_at t (xs ++ Got t id ∷ [])) (got_at t (xs ++ Got t id ∷ [])) ≡ cond b (i ∷ got_at t xs) (got_at t xs) ++ id ∷ []
-    of true so = ap (λ (l : List ℕ). i ∷ l) so
-    of false so = so
+got-then t xs id =
+    let now : (t == t) ≡ true = grind arith in
+    flat_map-append (λ (e : Entry). id_at t (to_client e)) xs (Got t id ∷ []) ∙ ap (λ (b : Bool). got_at t xs ++ (cond b (id ∷ []) [] ++ [])) now
 
 -- a front that is as long is the whole
 whole_front : (front due : List ℕ) → IsFrontOf front due → length front ≡ length due → front ≡ due
@@ -123,24 +121,24 @@ module _ (c : Config) (is : IsConfig c) where
   -- ---- one command
 
   -- the command is ok, and all rests again
-  record Next (w : World) (entries : List Entry) (d : Done) : Type 0 where
-    pub ok : IsOk d.answer
+  record Next (w : World) (entries : List Entry) (answer : Told) (part : List Step) : Type 0 where
+    pub ok : IsOk answer
     pub t : Stages
-    pub stands : Stands c is (run c w d.part) (entries ++ record_of c w d.part) t
+    pub stands : Stands c is (run c w part) (entries ++ record_of c w part) t
     pub rests : Rests t
-    pub settled : Settles c plain w entries d.part
+    pub settled : Settles c plain w entries part
 
-  module _ (settled_by : List Step → Type 0) (patient : 2 ≤ c.tries * c.wait) (w : World) (entries : List Entry) (s : Stages) (part : List Step) (at : Stands c is w entries s) (rests : Rests s) (settled : AllGot c plain w entries) (allowed : AllAllowed c w part) (turns : AllInTurn c plain w entries part) where
+  module _ (settled_by : List Step → Type 0) (patient : 2 ≤ c.tries * c.wait) (w : World) (entries : List Entry) (s : Stages) (part : List Step) (at : Stands c is w entries s) (rests : Rests s) (settled : AllGot c plain w entries) (calm : AllByRecursion IsCalmStep part) (allowed : AllAllowed c w part) (turns : AllInTurn c plain w entries part) where
     follow_silent : sends_in part ≡ [] → Followed c is w entries s part
     follow_silent silent =
-        follow c is w entries s part at allowed turns (silent-settled c plain w entries part silent) (subst (λ (l : List Packet). AllByRecursion (λ p. p ≡ request_of c) l) (sym silent) tt)
+        follow c is w entries s part at calm allowed turns (silent-settled c plain w entries part silent) (subst (λ (l : List Packet). AllByRecursion (λ p. p ≡ request_of c) l) (sym silent) tt)
 
     follow_tries : (rests : List (List Step)) → part ≡ flat_map (λ rest. Send (request_of c) ∷ rest) rests → AllByRecursion (λ rest. sends_in rest ≡ []) rests → SendsSettled c plain w entries part
         → Followed c is w entries s part
     follow_tries rests cut silent sends =
-        follow c is w entries s part at allowed turns sends (subst (λ (l : List Step). AllByRecursion (λ p. p ≡ request_of c) (sends_in l)) (sym cut) (asks_only (request_of c) rests silent))
+        follow c is w entries s part at calm allowed turns sends (subst (λ (l : List Step). AllByRecursion (λ p. p ≡ request_of c) (sends_in l)) (sym cut) (asks_only (request_of c) rests silent))
 
-    address_next : (learned : Learned) → LearnsAddress settled_by c learned part → Ends c plain w entries (AddrOk learned.address) part → Next w entries (record { part = part; answer = AddrOk learned.address })
+    address_next : (learned : Learned) → LearnsAddress settled_by c learned part → Ends c plain w entries (AddrOk learned.address) part → Next w entries (AddrOk learned.address) part
     address_next learned caused ended =
         let asks = caused.asks in
         let silent = nothing_else (asks.before ++ asks.last ∷ []) asks.is.replied in
@@ -178,7 +176,7 @@ module _ (c : Config) (is : IsConfig c) where
         let none = unmatched-none (got_in part) f.replies caused.unmatched in
         omega (arith, caused.many, last_within (request_of c) asks.before asks.last, ap (λ (l : List Step). length (got_in l)) asks.is.cut, ap length none)
 
-    pause_next : (ticks : ℕ) → Waited settled_by ticks part → Ends c plain w entries (WaitOk ticks) part → Next w entries (record { part = part; answer = WaitOk ticks })
+    pause_next : (ticks : ℕ) → Waited settled_by ticks part → Ends c plain w entries (WaitOk ticks) part → Next w entries (WaitOk ticks) part
     pause_next ticks caused ended =
         let silent = caused.silent in
         let f = follow_silent silent in
@@ -196,42 +194,51 @@ module _ (c : Config) (is : IsConfig c) where
         let f = follow_silent silent in
         omega (arith, caused.many, pause_few s f.t part rests f.goes silent)
 
-    next : (n : Counts) (command : Command) (answer : Told) → command ≢ Boot → Cause settled_by c n command answer part → Ends c plain w entries answer part → Next w entries (record { part = part; answer = answer })
-    next n _ _ other (addr_ok learned _ caused) ended = address_next learned caused ended
-    next n _ _ other (addr_timeout _ caused) ended = absurd (no_timeout caused ended)
-    next n _ _ other (addr_flood _ caused) ended = absurd (no_flood caused ended)
-    next n _ _ other (boot_unbuilt program port _ some caused) ended = absurd (other refl)
-    next n _ _ other (boot_timeout_rarp _ caused) ended = absurd (other refl)
-    next n _ _ other (boot_timeout_tftp _ caused) ended = absurd (other refl)
-    next n _ _ other (boot_timeout_call program step _ caused) ended = absurd (other refl)
-    next n _ _ other (boot_flood_rarp _ caused) ended = absurd (other refl)
-    next n _ _ other (boot_flood_tftp _ caused) ended = absurd (other refl)
-    next n _ _ other (boot_flood_call program step _ caused) ended = absurd (other refl)
-    next n _ _ other (boot_denied program step code _ caused) ended = absurd (other refl)
-    next n _ _ other (boot_refused code _ caused) ended = absurd (other refl)
-    next n _ _ other (boot_no_port program _ caused) ended = absurd (other refl)
-    next n _ _ other (boot_too_large size _ caused) ended = absurd (other refl)
-    next n _ _ other (wait_ok ticks _ caused) ended = pause_next ticks caused ended
-    next n _ _ other (wait_flood ticks _ caused) ended = absurd (no_wait_flood ticks caused)
+    next : (n : Counts) (command : Command) (answer : Told) → command ≢ Boot → fails_in part ≡ faults_told answer → Cause settled_by c n command answer part → Ends c plain w entries answer part → Next w entries answer part
+    next n _ _ other fails (addr_ok learned _ caused) ended = address_next learned caused ended
+    next n _ _ other fails (addr_timeout _ caused) ended = absurd (no_timeout caused ended)
+    next n _ _ other fails (addr_flood _ caused) ended = absurd (no_flood caused ended)
+    next n _ _ other fails (boot_unbuilt program port _ some caused) ended = absurd (other refl)
+    next n _ _ other fails (boot_timeout_rarp _ caused) ended = absurd (other refl)
+    next n _ _ other fails (boot_timeout_tftp _ caused) ended = absurd (other refl)
+    next n _ _ other fails (boot_timeout_call program step _ caused) ended = absurd (other refl)
+    next n _ _ other fails (boot_flood_rarp _ caused) ended = absurd (other refl)
+    next n _ _ other fails (boot_flood_tftp _ caused) ended = absurd (other refl)
+    next n _ _ other fails (boot_flood_call program step _ caused) ended = absurd (other refl)
+    next n _ _ other fails (boot_denied program step code _ caused) ended = absurd (other refl)
+    next n _ _ other fails (boot_refused code _ caused) ended = absurd (other refl)
+    next n _ _ other fails (boot_no_port program _ caused) ended = absurd (other refl)
+    next n _ _ other fails (boot_too_large size _ caused) ended = absurd (other refl)
+    next n _ _ other fails (wait_ok ticks _ caused) ended = pause_next ticks caused ended
+    next n _ _ other fails (wait_flood ticks _ caused) ended = absurd (no_wait_flood ticks caused)
+    next n _ _ other fails (addr_linkfault _ h) ended = absurd (omega (arith, fails, calm_fails part calm))
+    next n _ _ other fails (boot_linkfault step _ h) ended = absurd (other refl)
+    next n _ _ other fails (wait_linkfault ticks _ h) ended = absurd (omega (arith, fails, calm_fails part calm))
 
   -- ---- all commands
 
   all_ok : (settled_by : List Step → Type 0) → 2 ≤ c.tries * c.wait → (w : World) (entries : List Entry) (s : Stages) (m : Counts) (commands : List Command) (done : List Done) → AllByRecursion (λ command. command ≢ Boot) commands → Stands c is w entries s → Rests s → AllGot c plain w entries
-      → AllAllowed c w (parts_of done) → AllInTurn c plain w entries (parts_of done) → AllCaused settled_by c m commands done → AllEnd c plain w entries done → AllByRecursion (λ d. IsOk d.answer) done
-  all_ok settled_by patient w entries s m commands [] others at rests settled allowed turns caused ended = tt
-  all_ok settled_by patient w entries s m [] (d ∷ ds) others at rests settled allowed turns caused ended = absurd caused
-  all_ok settled_by patient w entries s m (k ∷ ks) (d ∷ ds) others at rests settled allowed turns caused ended =
+      → AllByRecursion IsCalmStep (parts_of done) → AllAllowed c w (parts_of done) → AllInTurn c plain w entries (parts_of done) → AllCaused settled_by c m commands done → AllEnd c plain w entries done → AllByRecursion (λ d. IsOk d.answer) done
+  all_ok settled_by patient w entries s m commands [] others at rests settled calm allowed turns caused ended = tt
+  all_ok settled_by patient w entries s m [] (d ∷ ds) others at rests settled calm allowed turns caused ended = absurd caused
+  all_ok settled_by patient w entries s m (k ∷ ks) (d ∷ ds) others at rests settled calm allowed turns caused ended =
+      let q = all_split IsCalmStep d.part (parts_of ds) calm in
       let a = allowed-split c w d.part (parts_of ds) allowed in
       let t = in_turn-split c plain w entries d.part (parts_of ds) turns in
-      let n = next settled_by patient w entries s d.part at rests settled a.0 t.0 m k d.answer others.0 caused.0.cause ended.0 in
-      (n.ok, all_ok (beyond settled_by d.part) patient (run c w d.part) (entries ++ record_of c w d.part) n.t (counts_after m d.answer) ks ds others.1 n.stands n.rests n.settled a.1 t.1 caused.1 ended.1)
+      let n = next settled_by patient w entries s d.part at rests settled q.0 a.0 t.0 m k d.answer others.0 caused.0.fails caused.0.cause ended.0 in
+      (n.ok, all_ok (beyond settled_by d.part) patient (run c w d.part) (entries ++ record_of c w d.part) n.t d.counts ks ds others.1 n.stands n.rests n.settled q.1 a.1 t.1 caused.2 ended.1)
 
 -- all answers of a calm script are ok
-pub complete : (settled_by : List Step → Type 0) (s : Script) → IsConfig s.config → (commands : List Command) (done : List Done) → IsLawful s.config (fates_of s.events) (parts_of done) → AllCaused settled_by s.config first_counts commands done
-    → AllEnd s.config (fates_of s.events) (start s.config) [] done → AllByRecursion (λ command. command ≢ Boot) commands → IsCalm s → AllByRecursion (λ d. IsOk d.answer) done
-complete settled_by s is commands done law caused ended others calm =
+pub complete : (settled_by : List Step → Type 0) (s : Script) → IsConfig s.config → (commands : List Command) (done : List Done) (more : List Step) → IsLawful s.config (plan_of s.events) (parts_of done ++ more)
+    → AllCaused settled_by s.config first_counts commands done → AllEnd s.config (plan_of s.events).fates (start s.config) [] done → AllByRecursion (λ command. command ≢ Boot) commands → IsCalm s
+    → AllByRecursion (λ d. IsOk d.answer) done
+complete settled_by s is commands done more law caused ended others calm =
     let c = s.config in
+    let steps = parts_of done in
+    let quiet = (all_split IsCalmStep steps more (calm_run c s.events (steps ++ more) calm.quiet law)).0 in
+    let allowed = (allowed-split c (start c) steps more law.orderly.allowed).0 in
+    let turns = (in_turn-split c (plan_of s.events).fates (start c) [] steps more law.orderly.in_turn).0 in
     all_ok c is settled_by calm.patient (start c) [] (record { sent = 0; asked = 0; replied = 0; waiting = 0 }) first_counts commands done others (stands_start c is)
-    (record { none_sent = refl; few = omega arith; none_waits = refl }) refl law.allowed
-    (subst (λ (l : List Fate). AllInTurn c (fate_in l) (start c) [] (parts_of done)) calm.plain law.in_turn) caused
-    (subst (λ (l : List Fate). AllEnd c (fate_in l) (start c) [] done) calm.plain ended)
+    (record { none_sent = refl; few = omega arith; none_waits = refl }) refl quiet allowed
+    (subst (λ (l : List Fate). AllInTurn c (fate_in l) (start c) [] steps) calm.quiet.fates turns) caused
+    (subst (λ (l : List Fate). AllEnd c (fate_in l) (start c) [] done) calm.quiet.fates ended)

@@ -1,5 +1,6 @@
 -- A lawful run over a network that loses, delays and repeats nothing, followed by its stages.
 use Rattle.std.proofs.Common.{◌≡◌, ℕ, zero, suc, ◌+◌, ◌==◌, ◌<◌, ◌≤◌, Bool, true, false, cond, List, [], ◌∷◌, ◌++◌, length, map, Option, Some, None, Result, refl, sym, ◌∙◌, ap, subst, arith, append_assoc, length-append}
+use Rattle.std.proofs.lemmas.Grind.{flat_map-append}
 use Rattle.std.proofs.lemmas.List.{append-nil, take-append-le, take_all}
 use Rattle.std.proofs.lemmas.Slice.Eq.{bytes_eq-Decides}
 use Rattle.std.specs.Prelude.{slice_get, take, replicate}
@@ -18,15 +19,17 @@ use Rattle.sd_rarp.proofs.RoundTrip.{reading-reply, reading-request}
 use Rattle.sd_config.specs.declared.config.Config.{Config}
 use Rattle.sd_config.specs.Config.{IsConfig}
 use Rattle.sd_config.specs.Events.{Fates, fate_in}
-use Rattle.sd_link.specs.World.{World, Flying, Sender, Client, Server, start, sent_by}
+use Rattle.sd_link.specs.World.{World, Flying, Sender, Client, Server, Stranger, start, sent_by}
 use Rattle.sd_services.specs.Part.{Session, ServerPart}
 use Rattle.sd_services.specs.Sessions.{session_in}
+use Rattle.sd_services.specs.NfsCalls.{change_of}
 use Rattle.sd_services.specs.Reply.{rarp_answer, as_frame, out_of, next_of}
-use Rattle.sd_link.specs.Steps.{Step, Tick, Send, Serve, Data, End, Get, Entry, Sent, Served, Got, after, served, replies_to, sent_from, entries_of, run, record_of, Allowed, AllAllowed, goes_to_server, goes_to_client, reaches_server, reaches_client}
+use Rattle.sd_link.specs.Steps.{Step, Tick, Send, Serve, Settle, Data, End, Get, Entry, Sent, Served, Got, after, served, replies_to, sent_from, entries_of, run, record_of, Allowed, AllAllowed, goes_to_server, goes_to_client, reaches_server, reaches_client}
 use Rattle.sd_link.specs.Parts.{sends_in, got_in}
-use Rattle.sd_link.specs.Lawful.{InTurn, AllInTurn, AllGot, SendsSettled, IsFrontOf, served_at, got_at, due, due_to_server, due_to_client, copies_at}
+use Rattle.sd_link.specs.Lawful.{InTurn, AllInTurn, AllGot, SendsSettled, IsFrontOf, to_server, to_client, id_at, served_at, got_at, due, due_to_server, due_to_client, copies_at}
 use Rattle.sd_claims.specs.Rarp.{Learned, rarp_request, learned_from, learned_in, broadcast_mac}
 use Rattle.sd_boot.proofs.Stages.{Stages, Goes, AllGo}
+use Rattle.sd_boot.proofs.Unplanned.{IsCalmStep}
 
 -- without fates each packet comes once, a tick after it was sent
 abbrev pub plain : Fates
@@ -94,26 +97,10 @@ one_other goes tick f is = ap (λ (a : Bool). cond a (cond (f.tick + 1 == tick) 
 -- ---- what came at a tick
 
 served-more : (t : ℕ) (xs ys : List Entry) → length (served_at t (xs ++ ys)) ≡ length (served_at t xs) + length (served_at t ys)
-served-more t [] ys = omega arith
-served-more t (Sent u id p ∷ xs) ys = served-more t xs ys
-served-more t (Got u id ∷ xs) ys = served-more t xs ys
-served-more t (Served u id ∷ xs) ys = of (u == t) (served-more t xs ys)
-  where
-    of : (b : Bool) → length (served_at t (xs ++ ys)) ≡ length (served_at t xs) + length (served_at t ys)
-        → length (cond b (id ∷ served_at t (xs ++ ys)) (served_at t (xs ++ ys))) ≡ length (cond b (id ∷ served_at t xs) (served_at t xs)) + length (served_at t ys)
-    of true so = omega (arith, so)
-    of false so = so
+served-more t xs ys = ap length (flat_map-append (λ (e : Entry). id_at t (to_server e)) xs ys) ∙ length-append (served_at t xs) (served_at t ys)
 
 got-more : (t : ℕ) (xs ys : List Entry) → length (got_at t (xs ++ ys)) ≡ length (got_at t xs) + length (got_at t ys)
-got-more t [] ys = omega arith
-got-more t (Sent u id p ∷ xs) ys = got-more t xs ys
-got-more t (Served u id ∷ xs) ys = got-more t xs ys
-got-more t (Got u id ∷ xs) ys = of (u == t) (got-more t xs ys)
-  where
-    of : (b : Bool) → length (got_at t (xs ++ ys)) ≡ length (got_at t xs) + length (got_at t ys)
-        → length (cond b (id ∷ got_at t (xs ++ ys)) (got_at t (xs ++ ys))) ≡ length (cond b (id ∷ got_at t xs) (got_at t xs)) + length (got_at t ys)
-    of true so = omega (arith, so)
-    of false so = so
+got-more t xs ys = ap length (flat_map-append (λ (e : Entry). id_at t (to_client e)) xs ys) ∙ length-append (got_at t xs) (got_at t ys)
 
 -- ---- the one request and its reply
 
@@ -123,9 +110,11 @@ request_of c = rarp_request c.client.mac
 abbrev pub reply_of : Config → Packet
 reply_of c = Frame (frame_bytes (Reply c.client.mac c.server.mac c.server.mac c.server.ip c.client.mac c.client.ip))
 
-abbrev pub packet_from : Config → Sender → Packet
-packet_from c Client = request_of c
-packet_from c Server = reply_of c
+-- the client sends its request, the server its reply, and nobody else sends
+abbrev pub IsFrom : Config → Sender → Packet → Type 0
+IsFrom c Client packet = packet ≡ request_of c
+IsFrom c Server packet = packet ≡ reply_of c
+IsFrom c Stranger packet = ⊥
 
 its_own : (a : Mac) → is_mac a a ≡ true
 its_own a = (bytes_eq-Decides a.0 a.0).1 refl
@@ -170,7 +159,7 @@ module _ (c : Config) (is : IsConfig c) where
   pub record Stands (w : World) (entries : List Entry) (s : Stages) : Type 0 where
     pub no_sessions : w.server.sessions ≡ []
     -- every packet is the request or its reply, and was sent
-    pub packets : AllByRecursion (λ f. f.packet ≡ packet_from c f.from) w.flight
+    pub packets : AllByRecursion (λ f. IsFrom c f.from f.packet) w.flight
     pub flown : AllByRecursion (λ f. f.tick ≤ w.tick) w.flight
     -- nothing came at a later tick
     pub past : (later : ℕ) → w.tick < later → (length (served_at later entries) ≡ 0) × (length (got_at later entries) ≡ 0)
@@ -246,7 +235,7 @@ module _ (c : Config) (is : IsConfig c) where
         goes = record { served = none_asked w entries s at turn.0; got = none_waits w entries s at settled; new_sent = refl; new_asked = refl; new_replied = refl; new_waiting = refl };
         stands = record {
           no_sessions = at.no_sessions;
-          packets = all-append (λ g. g.packet ≡ packet_from c g.from) w.flight (f ∷ []) at.packets (is_request, tt);
+          packets = all-append (λ (g : Flying). IsFrom c g.from g.packet) w.flight (f ∷ []) at.packets (is_request, tt);
           flown = all-append (λ g. g.tick ≤ w.tick) w.flight (f ∷ []) at.flown (omega arith, tt);
           past = λ later lt. (
             omega (arith, served-more later entries more, (at.past later lt).0),
@@ -260,26 +249,28 @@ module _ (c : Config) (is : IsConfig c) where
       }
 
   -- a packet that goes to the server is the request
-  asks_it : (from : Sender) (packet : Packet) → goes_to_server c from packet ≡ true → packet ≡ packet_from c from → packet ≡ request_of c
+  asks_it : (from : Sender) (packet : Packet) → goes_to_server c from packet ≡ true → IsFrom c from packet → packet ≡ request_of c
   asks_it Client packet goes so = so
   asks_it Server packet goes so = absurd cc
+  asks_it Stranger packet goes so = absurd so
 
   -- and one that goes to the client its reply
-  replies_it : (from : Sender) (packet : Packet) → goes_to_client c from packet ≡ true → packet ≡ packet_from c from → packet ≡ reply_of c
+  replies_it : (from : Sender) (packet : Packet) → goes_to_client c from packet ≡ true → IsFrom c from packet → packet ≡ reply_of c
   replies_it Client packet goes so = absurd cc
   replies_it Server packet goes so = so
+  replies_it Stranger packet goes so = absurd so
 
   served_one : (tick id n : ℕ) (packet : Packet) → length (served_at tick (Served tick id ∷ Sent tick n packet ∷ [])) ≡ 1
-  served_one tick id n packet = ap (λ (b : Bool). length (cond b (id ∷ []) [])) (same-tick tick)
+  served_one tick id n packet = ap (λ (b : Bool). length (cond b (id ∷ []) [] ++ [])) (same-tick tick)
 
   served_past : (later tick id n : ℕ) (packet : Packet) → tick < later → length (served_at later (Served tick id ∷ Sent tick n packet ∷ [])) ≡ 0
-  served_past later tick id n packet lt = let no : (tick == later) ≡ false = grind arith in ap (λ (b : Bool). length (cond b (id ∷ []) [])) no
+  served_past later tick id n packet lt = let no : (tick == later) ≡ false = grind arith in ap (λ (b : Bool). length (cond b (id ∷ []) [] ++ [])) no
 
   got_one : (tick id : ℕ) → length (got_at tick (Got tick id ∷ [])) ≡ 1
-  got_one tick id = ap (λ (b : Bool). length (cond b (id ∷ []) [])) (same-tick tick)
+  got_one tick id = ap (λ (b : Bool). length (cond b (id ∷ []) [] ++ [])) (same-tick tick)
 
   got_past : (later tick id : ℕ) → tick < later → length (got_at later (Got tick id ∷ [])) ≡ 0
-  got_past later tick id lt = let no : (tick == later) ≡ false = grind arith in ap (λ (b : Bool). length (cond b (id ∷ []) [])) no
+  got_past later tick id lt = let no : (tick == later) ≡ false = grind arith in ap (λ (b : Bool). length (cond b (id ∷ []) [] ++ [])) no
 
   -- the next in turn is one of those that are left
   one_left : (xs due : List ℕ) (id n count : ℕ) → IsFrontOf (xs ++ id ∷ []) due → length xs + n ≡ count → length due ≡ count → (left : ℕ) × (left + 1 ≡ n)
@@ -298,7 +289,7 @@ module _ (c : Config) (is : IsConfig c) where
         goes = record { new_sent = refl; new_asked = is_left; new_replied = refl; new_waiting = refl };
         stands = record {
           no_sessions = at.no_sessions;
-          packets = all-append (λ g. g.packet ≡ packet_from c g.from) w.flight (f ∷ []) at.packets (refl, tt);
+          packets = all-append (λ (g : Flying). IsFrom c g.from g.packet) w.flight (f ∷ []) at.packets (refl, tt);
           flown = all-append (λ g. g.tick ≤ w.tick) w.flight (f ∷ []) at.flown (omega arith, tt);
           past = λ later lt. (
             omega (arith, served-more later entries more, (at.past later lt).0, served_past later w.tick id (length w.flight) (reply_of c) lt),
@@ -313,10 +304,11 @@ module _ (c : Config) (is : IsConfig c) where
 
   serve_stands : (w : World) (entries : List Entry) (s : Stages) (id : ℕ) → Stands w entries s → Allowed c w (Serve id) → InTurn c plain w entries (Serve id)
       → Stepped w (after c w (Serve id)) entries (entries_of c w (Serve id)) (Serve id) s
+  unfolding change_of
   serve_stands w entries s id at allowed turn =
       let f = allowed.0 in
       let here = allowed.1.sent in
-      let is_request : f.packet ≡ request_of c = asks_it f.from f.packet allowed.2 (found (λ g. g.packet ≡ packet_from c g.from) w.flight id f at.packets here) in
+      let is_request : f.packet ≡ request_of c = asks_it f.from f.packet allowed.2 (found (λ (g : Flying). IsFrom c g.from g.packet) w.flight id f at.packets here) in
       let out : out_of c w.tick w.server f.packet ≡ reply_of c ∷ [] = ap (λ (p : Packet). out_of c w.tick w.server p) is_request ∙ answered w.tick w in
       let same : next_of c w.tick w.server f.packet ≡ w.server = ap (λ (p : Packet). next_of c w.tick w.server p) is_request in
       let new : sent_by Server w (reply_of c ∷ []) ≡ after c w (Serve id) =
@@ -330,6 +322,25 @@ module _ (c : Config) (is : IsConfig c) where
       subst (λ (v : World). Stepped w v entries (entries_of c w (Serve id)) (Serve id) s) new
       (subst (λ (l : List Entry). Stepped w (sent_by Server w (reply_of c ∷ [])) entries l (Serve id) s) more
       (reply_stands w entries s id left.0 at left.1))
+
+  -- nothing that the two ends send or await is changed
+  settle_stands : (w : World) (entries : List Entry) (s : Stages) (done : Bool) → Stands w entries s → Stepped w (after c w (Settle done)) entries [] (Settle done) s
+  settle_stands w entries s done at = record {
+    t = s;
+    goes = record { new_sent = refl; new_asked = refl; new_replied = refl; new_waiting = refl };
+    stands =
+        subst (λ (l : List Entry). Stands (after c w (Settle done)) l s) (sym (append-nil entries))
+        (record {
+          no_sessions = at.no_sessions;
+          packets = at.packets;
+          flown = at.flown;
+          past = at.past;
+          sent = at.sent;
+          asked = at.asked;
+          replied = at.replied;
+          waiting = at.waiting;
+        });
+  }
 
   get_stands : (w : World) (entries : List Entry) (s : Stages) (id : ℕ) (packet : Packet) → Stands w entries s → InTurn c plain w entries (Get id packet)
       → Stepped w w entries (Got w.tick id ∷ []) (Get id packet) s
@@ -381,27 +392,32 @@ module _ (c : Config) (is : IsConfig c) where
       never : None ≡ Some session → ⊥
       never is = cc
 
-  pub follow : (w : World) (entries : List Entry) (s : Stages) (steps : List Step) → Stands w entries s → AllAllowed c w steps → AllInTurn c plain w entries steps → SendsSettled c plain w entries steps
-      → AllByRecursion (λ p. p ≡ request_of c) (sends_in steps) → Followed w entries s steps
-  follow w entries s [] at allowed turns settled asks =
+  pub follow : (w : World) (entries : List Entry) (s : Stages) (steps : List Step) → Stands w entries s → AllByRecursion IsCalmStep steps → AllAllowed c w steps → AllInTurn c plain w entries steps
+      → SendsSettled c plain w entries steps → AllByRecursion (λ p. p ≡ request_of c) (sends_in steps) → Followed w entries s steps
+  follow w entries s [] at calm allowed turns settled asks =
       record { t = s; goes = refl; stands = subst (λ (l : List Entry). Stands w l s) (sym (append-nil entries)) at; replies = tt }
-  follow w entries s (Tick ∷ steps) at allowed turns settled asks =
+  follow w entries s (Tick ∷ steps) at calm allowed turns settled asks =
       let o = tick_stands w entries s at turns.0 in
-      let r = follow (after c w Tick) (entries ++ entries_of c w Tick) o.t steps o.stands allowed.1 turns.1 settled asks in
+      let r = follow (after c w Tick) (entries ++ entries_of c w Tick) o.t steps o.stands calm.1 allowed.1 turns.1 settled asks in
       then_followed w entries s Tick steps o r r.replies
-  follow w entries s (Send packet ∷ steps) at allowed turns settled asks =
+  follow w entries s (Send packet ∷ steps) at calm allowed turns settled asks =
       let o = send_stands w entries s packet at turns.0 settled.0 asks.0 in
-      let r = follow (after c w (Send packet)) (entries ++ entries_of c w (Send packet)) o.t steps o.stands allowed.1 turns.1 settled.1 asks.1 in
+      let r = follow (after c w (Send packet)) (entries ++ entries_of c w (Send packet)) o.t steps o.stands calm.1 allowed.1 turns.1 settled.1 asks.1 in
       then_followed w entries s (Send packet) steps o r r.replies
-  follow w entries s (Serve id ∷ steps) at allowed turns settled asks =
+  follow w entries s (Serve id ∷ steps) at calm allowed turns settled asks =
       let o = serve_stands w entries s id at allowed.0 turns.0 in
-      let r = follow (after c w (Serve id)) (entries ++ entries_of c w (Serve id)) o.t steps o.stands allowed.1 turns.1 settled asks in
+      let r = follow (after c w (Serve id)) (entries ++ entries_of c w (Serve id)) o.t steps o.stands calm.1 allowed.1 turns.1 settled asks in
       then_followed w entries s (Serve id) steps o r r.replies
-  follow w entries s (Data number ∷ steps) at allowed turns settled asks = absurd (no_session w number allowed.0.0 at.no_sessions allowed.0.1.found)
-  follow w entries s (End number ∷ steps) at allowed turns settled asks = absurd (no_session w number allowed.0.0 at.no_sessions allowed.0.1.found)
-  follow w entries s (Get id packet ∷ steps) at allowed turns settled asks =
+  follow w entries s (Settle done ∷ steps) at calm allowed turns settled asks =
+      let o = settle_stands w entries s done at in
+      let r = follow (after c w (Settle done)) (entries ++ entries_of c w (Settle done)) o.t steps o.stands calm.1 allowed.1 turns.1 settled asks in
+      then_followed w entries s (Settle done) steps o r r.replies
+  follow w entries s (Data number ∷ steps) at calm allowed turns settled asks = absurd (no_session w number allowed.0.0 at.no_sessions allowed.0.1.found)
+  follow w entries s (End number ∷ steps) at calm allowed turns settled asks = absurd (no_session w number allowed.0.0 at.no_sessions allowed.0.1.found)
+  follow w entries s (Get id packet ∷ steps) at calm allowed turns settled asks =
       let o = get_stands w entries s id packet at turns.0 in
-      let r = follow w (entries ++ entries_of c w (Get id packet)) o.t steps o.stands allowed.1 turns.1 settled asks in
+      let r = follow w (entries ++ entries_of c w (Get id packet)) o.t steps o.stands calm.1 allowed.1 turns.1 settled asks in
       let f = allowed.0.0 in
-      let is_reply : packet ≡ reply_of c = sym allowed.0.3 ∙ replies_it f.from f.packet allowed.0.2 (found (λ g. g.packet ≡ packet_from c g.from) w.flight id f at.packets allowed.0.1.sent) in
+      let is_reply : packet ≡ reply_of c = sym allowed.0.3 ∙ replies_it f.from f.packet allowed.0.2 (found (λ (g : Flying). IsFrom c g.from g.packet) w.flight id f at.packets allowed.0.1.sent) in
       then_followed w entries s (Get id packet) steps o r (is_reply, r.replies)
+  follow w entries s (step ∷ steps) at calm allowed turns settled asks = absurd calm.0

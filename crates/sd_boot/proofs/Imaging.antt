@@ -5,8 +5,8 @@ use Rattle.std.specs.Result.{result_ok}
 use Rattle.sd_config.specs.declared.config.SwapLine.{SwapLine}
 use Rattle.sd_link.specs.Lawful.{IsFrontOf}
 use Rattle.sd_script.specs.Limits.{input_limit}
-use Rattle.sd_boot_chain.specs.Writing.{GainsFront}
-use Rattle.sd_boot_chain.proofs.Gaining.{gains_nothing}
+use Rattle.sd_streams.specs.Writing.{GainsFront, GainsSome}
+use Rattle.sd_streams.proofs.Gaining.{gains_nothing}
 use Rattle.sd_stable_disk.specs.Image.{opens, held, holds, rounded, total, new_image, zero_files, AreSizes}
 use Rattle.sd_stable_disk.specs.declared.errors.OpenError.{OpenError}
 use Rattle.sd_stable_disk.specs.declared.errors.OpenError.TheVariants as errors
@@ -16,7 +16,6 @@ use Rattle.sd_boot.specs.declared.status.Ended.{Ended}
 use Rattle.sd_boot.specs.declared.status.Ended.TheVariants.{Done, Refused, Usage, NoImage}
 use Rattle.sd_boot.specs.declared.status.Stop.{Stop}
 use Rattle.sd_boot.specs.declared.status.Stop.TheVariants.{SourceFault, SinkFault, NoMemory}
-use Rattle.sd_boot.specs.Play.{GainsSome}
 use Rattle.sd_boot.specs.Images.{IsShownImage, IsImageRefusal, IsAnswer, IsAnswerFront, Answers, EndsSo, IsNewImage, swap_sizes, IsRefusalLine, files_text}
 use Rattle.sd_boot.proofs.Cutting.{no_script}
 use Rattle.sd_boot.proofs.Replaying.{refusal_alike}

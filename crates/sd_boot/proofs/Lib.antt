@@ -1,6 +1,7 @@
 pub mod Cutting
 pub mod Honest
 pub mod Stages
+pub mod Unplanned
 pub mod Following
 pub mod Completing
 pub mod Composing

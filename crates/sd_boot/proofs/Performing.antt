@@ -8,7 +8,8 @@ use Rattle.sd_stable_disk.specs.declared.errors.OpenError.{OpenError}
 use Rattle.sd_script.specs.declared.script.Script.{Script}
 use Rattle.sd_script.specs.Grammar.{IsScript}
 use Rattle.sd_script.proofs.OneScript.{never_both}
-use Rattle.sd_claims.specs.Headline.{IsRefusal, Writes}
+use Rattle.sd_streams.specs.Writing.{Writes}
+use Rattle.sd_claims.specs.Headline.{IsRefusal}
 use Rattle.sd_boot.specs.declared.status.Ended.{Ended}
 use Rattle.sd_boot.specs.declared.status.Ended.TheVariants.{Done, Refused, Usage, NoImage}
 use Rattle.sd_boot.specs.declared.status.Stop.{Stop}

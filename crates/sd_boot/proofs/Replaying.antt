@@ -6,15 +6,14 @@ use Rattle.sd_link.specs.Lawful.{IsFrontOf}
 use Rattle.sd_script.specs.declared.script.Script.{Script}
 use Rattle.sd_script.specs.Limits.{input_limit}
 use Rattle.sd_script.specs.Grammar.{IsScript, IsFirstOutside}
-use Rattle.sd_claims.specs.Headline.{Plays, PlaysFront, IsRefusal, IsFront, refusal_line, Writes}
-use Rattle.sd_boot_chain.specs.Writing.{GainsFront}
-use Rattle.sd_boot_chain.proofs.Gaining.{gains_nothing}
+use Rattle.sd_claims.specs.Headline.{Plays, PlaysFront, IsRefusal, IsFront, refusal_line}
+use Rattle.sd_streams.specs.Writing.{GainsFront, GainsSome, Writes}
+use Rattle.sd_streams.proofs.Gaining.{gains_nothing}
 use Rattle.sd_boot.specs.declared.status.Ended.{Ended}
 use Rattle.sd_boot.specs.declared.status.Ended.TheVariants.{Done, Refused, Usage, NoImage}
 use Rattle.sd_boot.specs.declared.status.Stop.{Stop}
 use Rattle.sd_boot.specs.declared.status.Stop.TheVariants.{SourceFault, SinkFault, NoMemory}
 use Rattle.sd_boot.specs.Input.{IsRead}
-use Rattle.sd_boot.specs.Play.{GainsSome}
 use Rattle.sd_boot.specs.Replay.{Replays}
 use Rattle.sd_boot.proofs.Cutting.{no_script, refused_alike}
 

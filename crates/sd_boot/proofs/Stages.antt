@@ -3,7 +3,7 @@ use Rattle.std.proofs.Common.{◌≡◌, ℕ, ◌+◌, ◌≤◌, List, [], ◌�
 use Rattle.std.proofs.lemmas.List.{append-nil}
 use Rattle.std.specs.List.{flat_map, AllByRecursion}
 use Rattle.sd_outside.specs.declared.packet.Packet.{Packet}
-use Rattle.sd_link.specs.Steps.{Step, Tick, Send, Serve, Data, End, Get}
+use Rattle.sd_link.specs.Steps.{Step, Tick, Send, Serve, Settle, Get}
 use Rattle.sd_link.specs.Parts.{sends_in, got_in, ticks_in}
 
 pub record Stages : Type 0 where
@@ -45,14 +45,21 @@ pub record Gets (s t : Stages) : Type 0 where
   pub new_replied : t.replied ≡ s.replied
   pub new_waiting : t.waiting + 1 ≡ s.waiting
 
--- what a step of a calm run does to the stages; the client sends only where nothing waits, and there are no sessions
+pub record Stays (s t : Stages) : Type 0 where
+  pub new_sent : t.sent ≡ s.sent
+  pub new_asked : t.asked ≡ s.asked
+  pub new_replied : t.replied ≡ s.replied
+  pub new_waiting : t.waiting ≡ s.waiting
+
+-- What a step of a calm run does to the stages: the client sends only where nothing waits, there are no sessions and no strangers, and
+-- nothing fails.
 abbrev pub Goes : Stages → Step → Stages → Type 0
 Goes s Tick t = Ticked s t
 Goes s (Send packet) t = Sends s t
 Goes s (Serve id) t = Serves s t
-Goes s (Data number) t = ⊥
-Goes s (End number) t = ⊥
+Goes s (Settle done) t = Stays s t
 Goes s (Get id packet) t = Gets s t
+Goes s step t = ⊥
 
 abbrev pub AllGo : Stages → List Step → Stages → Type 0
 AllGo s [] t = s ≡ t
@@ -69,18 +76,18 @@ silent_total s t [] g silent = let e : total s ≡ total t = ap total g in omega
 silent_total s t (Tick ∷ steps) g silent = omega (arith, g.1.served, g.1.got, g.1.new_sent, g.1.new_asked, g.1.new_replied, g.1.new_waiting, silent_total g.0 t steps g.2 silent)
 silent_total s t (Send packet ∷ steps) g silent = absurd cc
 silent_total s t (Serve id ∷ steps) g silent = omega (arith, g.1.new_sent, g.1.new_asked, g.1.new_replied, g.1.new_waiting, silent_total g.0 t steps g.2 silent)
-silent_total s t (Data number ∷ steps) g silent = absurd g.1
-silent_total s t (End number ∷ steps) g silent = absurd g.1
+silent_total s t (Settle done ∷ steps) g silent = omega (arith, g.1.new_sent, g.1.new_asked, g.1.new_replied, g.1.new_waiting, silent_total g.0 t steps g.2 silent)
 silent_total s t (Get id packet ∷ steps) g silent = omega (arith, g.1.new_sent, g.1.new_asked, g.1.new_replied, g.1.new_waiting, silent_total g.0 t steps g.2 silent)
+silent_total s t (step ∷ steps) g silent = absurd g.1
 
 pub silent_sent : (s t : Stages) (steps : List Step) → AllGo s steps t → sends_in steps ≡ [] → t.sent ≤ s.sent
 silent_sent s t [] g silent = let e : s.sent ≡ t.sent = ap (λ (u : Stages). u.sent) g in omega (arith, e)
 silent_sent s t (Tick ∷ steps) g silent = omega (arith, g.1.new_sent, silent_sent g.0 t steps g.2 silent)
 silent_sent s t (Send packet ∷ steps) g silent = absurd cc
 silent_sent s t (Serve id ∷ steps) g silent = omega (arith, g.1.new_sent, silent_sent g.0 t steps g.2 silent)
-silent_sent s t (Data number ∷ steps) g silent = absurd g.1
-silent_sent s t (End number ∷ steps) g silent = absurd g.1
+silent_sent s t (Settle done ∷ steps) g silent = omega (arith, g.1.new_sent, silent_sent g.0 t steps g.2 silent)
 silent_sent s t (Get id packet ∷ steps) g silent = omega (arith, g.1.new_sent, silent_sent g.0 t steps g.2 silent)
+silent_sent s t (step ∷ steps) g silent = absurd g.1
 
 -- between two commands: nothing was sent at this tick, nothing waits, and at most one packet is on its way
 pub record Rests (s : Stages) : Type 0 where
@@ -105,37 +112,25 @@ abbrev pub Spaced : ℕ → List Step → Type 0
 Spaced n [] = Unit {0}
 Spaced n (Tick ∷ steps) = Spaced 0 steps
 Spaced n (Send packet ∷ steps) = (n ≡ 0) × Spaced 1 steps
-Spaced n (Serve id ∷ steps) = Spaced n steps
-Spaced n (Data number ∷ steps) = Spaced n steps
-Spaced n (End number ∷ steps) = Spaced n steps
-Spaced n (Get id packet ∷ steps) = Spaced n steps
+Spaced n (step ∷ steps) = Spaced n steps
 
 spaced_silent : (n : ℕ) (xs : List Step) → sends_in xs ≡ [] → Spaced n xs
 spaced_silent n [] silent = tt
 spaced_silent n (Tick ∷ xs) silent = spaced_silent 0 xs silent
 spaced_silent n (Send packet ∷ xs) silent = absurd cc
-spaced_silent n (Serve id ∷ xs) silent = spaced_silent n xs silent
-spaced_silent n (Data number ∷ xs) silent = spaced_silent n xs silent
-spaced_silent n (End number ∷ xs) silent = spaced_silent n xs silent
-spaced_silent n (Get id packet ∷ xs) silent = spaced_silent n xs silent
+spaced_silent n (x ∷ xs) silent = spaced_silent n xs silent
 
 spaced_after : (xs ys : List Step) → sends_in xs ≡ [] → Spaced 0 ys → Spaced 0 (xs ++ ys)
 spaced_after [] ys silent later = later
 spaced_after (Tick ∷ xs) ys silent later = spaced_after xs ys silent later
 spaced_after (Send packet ∷ xs) ys silent later = absurd cc
-spaced_after (Serve id ∷ xs) ys silent later = spaced_after xs ys silent later
-spaced_after (Data number ∷ xs) ys silent later = spaced_after xs ys silent later
-spaced_after (End number ∷ xs) ys silent later = spaced_after xs ys silent later
-spaced_after (Get id packet ∷ xs) ys silent later = spaced_after xs ys silent later
+spaced_after (x ∷ xs) ys silent later = spaced_after xs ys silent later
 
 spaced_then : (n : ℕ) (xs ys : List Step) → sends_in xs ≡ [] → 1 ≤ ticks_in xs → Spaced 0 ys → Spaced n (xs ++ ys)
 spaced_then n [] ys silent passes later = absurd (omega (arith, passes))
 spaced_then n (Tick ∷ xs) ys silent passes later = spaced_after xs ys silent later
 spaced_then n (Send packet ∷ xs) ys silent passes later = absurd cc
-spaced_then n (Serve id ∷ xs) ys silent passes later = spaced_then n xs ys silent passes later
-spaced_then n (Data number ∷ xs) ys silent passes later = spaced_then n xs ys silent passes later
-spaced_then n (End number ∷ xs) ys silent passes later = spaced_then n xs ys silent passes later
-spaced_then n (Get id packet ∷ xs) ys silent passes later = spaced_then n xs ys silent passes later
+spaced_then n (x ∷ xs) ys silent passes later = spaced_then n xs ys silent passes later
 
 pub spaced_tries : (request : Packet) (wait : ℕ) (before : List (List Step)) (last : List Step) → 1 ≤ wait → AllByRecursion (λ rest. sends_in rest ≡ []) (before ++ last ∷ [])
     → AllByRecursion (λ rest. ticks_in rest ≡ wait) before → Spaced 0 (flat_map (λ rest. Send request ∷ rest) (before ++ last ∷ []))
@@ -184,8 +179,14 @@ tries_rest n s t (Serve i ∷ steps) id packet thin spaced g =
       inner = omega (arith, g.1.new_asked, g.1.new_replied, thin.inner);
     })
     spaced g.2
-tries_rest n s t (Data number ∷ steps) id packet thin spaced g = absurd g.1
-tries_rest n s t (End number ∷ steps) id packet thin spaced g = absurd g.1
+tries_rest n s t (Settle done ∷ steps) id packet thin spaced g =
+    tries_rest n g.0 t steps id packet
+    (record {
+      most = omega (arith, g.1.new_sent, thin.most);
+      outer = omega (arith, g.1.new_sent, g.1.new_waiting, thin.outer);
+      inner = omega (arith, g.1.new_asked, g.1.new_replied, thin.inner);
+    })
+    spaced g.2
 tries_rest n s t (Get i p ∷ steps) id packet thin spaced g =
     tries_rest n g.0 t steps id packet
     (record {
@@ -194,6 +195,7 @@ tries_rest n s t (Get i p ∷ steps) id packet thin spaced g =
       inner = omega (arith, g.1.new_asked, g.1.new_replied, thin.inner);
     })
     spaced g.2
+tries_rest n s t (step ∷ steps) id packet thin spaced g = absurd g.1
 
 -- ---- tries that get nothing
 
@@ -203,9 +205,9 @@ still_waits s t [] g none waits = subst (λ (u : Stages). 1 ≤ u.waiting) g wai
 still_waits s t (Tick ∷ steps) g none waits = absurd (omega (arith, g.1.got, waits))
 still_waits s t (Send packet ∷ steps) g none waits = absurd (omega (arith, g.1.got, waits))
 still_waits s t (Serve id ∷ steps) g none waits = still_waits g.0 t steps g.2 none (omega (arith, g.1.new_waiting, waits))
-still_waits s t (Data number ∷ steps) g none waits = absurd g.1
-still_waits s t (End number ∷ steps) g none waits = absurd g.1
+still_waits s t (Settle done ∷ steps) g none waits = still_waits g.0 t steps g.2 none (omega (arith, g.1.new_waiting, waits))
 still_waits s t (Get id packet ∷ steps) g none waits = absurd cc
+still_waits s t (step ∷ steps) g none waits = absurd g.1
 
 -- what was asked or replied waits a tick later
 then_waits : (s t : Stages) (steps : List Step) → AllGo s steps t → got_in steps ≡ [] → 1 ≤ s.asked + s.replied → 1 ≤ ticks_in steps → 1 ≤ t.waiting
@@ -213,9 +215,9 @@ then_waits s t [] g none some passes = absurd (omega (arith, passes))
 then_waits s t (Tick ∷ steps) g none some passes = still_waits g.0 t steps g.2 none (omega (arith, g.1.served, g.1.new_waiting, some))
 then_waits s t (Send packet ∷ steps) g none some passes = then_waits g.0 t steps g.2 none (omega (arith, g.1.new_asked, g.1.new_replied, some)) passes
 then_waits s t (Serve id ∷ steps) g none some passes = then_waits g.0 t steps g.2 none (omega (arith, g.1.new_asked, g.1.new_replied, some)) passes
-then_waits s t (Data number ∷ steps) g none some passes = absurd g.1
-then_waits s t (End number ∷ steps) g none some passes = absurd g.1
+then_waits s t (Settle done ∷ steps) g none some passes = then_waits g.0 t steps g.2 none (omega (arith, g.1.new_asked, g.1.new_replied, some)) passes
 then_waits s t (Get id packet ∷ steps) g none some passes = absurd cc
+then_waits s t (step ∷ steps) g none some passes = absurd g.1
 
 -- a reply to what was sent waits two ticks later
 pub reply_waits : (s t : Stages) (steps : List Step) → AllGo s steps t → got_in steps ≡ [] → 1 ≤ s.sent → 2 ≤ ticks_in steps → 1 ≤ t.waiting
@@ -223,6 +225,6 @@ reply_waits s t [] g none some passes = absurd (omega (arith, passes))
 reply_waits s t (Tick ∷ steps) g none some passes = then_waits g.0 t steps g.2 none (omega (arith, g.1.new_asked, some)) (omega (arith, passes))
 reply_waits s t (Send packet ∷ steps) g none some passes = reply_waits g.0 t steps g.2 none (omega (arith, g.1.new_sent, some)) passes
 reply_waits s t (Serve id ∷ steps) g none some passes = reply_waits g.0 t steps g.2 none (omega (arith, g.1.new_sent, some)) passes
-reply_waits s t (Data number ∷ steps) g none some passes = absurd g.1
-reply_waits s t (End number ∷ steps) g none some passes = absurd g.1
+reply_waits s t (Settle done ∷ steps) g none some passes = reply_waits g.0 t steps g.2 none (omega (arith, g.1.new_sent, some)) passes
 reply_waits s t (Get id packet ∷ steps) g none some passes = absurd cc
+reply_waits s t (step ∷ steps) g none some passes = absurd g.1

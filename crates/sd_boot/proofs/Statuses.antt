@@ -2,7 +2,7 @@
 use Rattle.std.proofs.Common.{◌≡◌, ℕ, ◌≤◌, List, Option, Some, None, Result, Ok, Err, refl, arith}
 use Rattle.std.specs.Prelude.{IsErrOf, IfSome}
 use Rattle.sd_outside.specs.Causes.{Rose}
-use Rattle.sd_claims.specs.Headline.{Writes}
+use Rattle.sd_streams.specs.Writing.{Writes}
 use Rattle.sd_boot.specs.declared.status.Ended.{Ended}
 use Rattle.sd_boot.specs.declared.status.Ended.TheVariants.{Done, Refused, Usage, NoImage}
 use Rattle.sd_boot.specs.declared.status.Stop.{Stop}

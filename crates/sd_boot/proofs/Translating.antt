@@ -7,16 +7,14 @@ use Rattle.sd_link.specs.Lawful.{IsFrontOf}
 use Rattle.sd_script.specs.Limits.{input_limit}
 use Rattle.sd_script.specs.Grammar.{lines}
 use Rattle.sd_script.proofs.OneScript.{lines_joined}
-use Rattle.sd_claims.specs.Headline.{Writes}
-use Rattle.sd_boot_chain.specs.Writing.{GainsFront}
-use Rattle.sd_boot_chain.proofs.Gaining.{gains_nothing}
+use Rattle.sd_streams.specs.Writing.{GainsFront, GainsSome, Writes}
+use Rattle.sd_streams.proofs.Gaining.{gains_nothing}
 use Rattle.sd_boot.specs.declared.packet_texts.Direction.{Direction}
 use Rattle.sd_boot.specs.declared.status.Ended.{Ended}
 use Rattle.sd_boot.specs.declared.status.Ended.TheVariants.{Done, Refused, Usage, NoImage}
 use Rattle.sd_boot.specs.declared.status.Stop.{Stop}
 use Rattle.sd_boot.specs.declared.status.Stop.TheVariants.{SourceFault, SinkFault, NoMemory}
 use Rattle.sd_boot.specs.Input.{IsRead}
-use Rattle.sd_boot.specs.Play.{GainsSome}
 use Rattle.sd_boot.specs.PacketTexts.{IsTranslated, IsTextRefusal, IsTextFront, Translates}
 use Rattle.sd_boot.proofs.Cutting.{Extends, extends, IsThere, there, concat-last}
 

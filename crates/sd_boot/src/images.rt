@@ -1,10 +1,9 @@
 //! The programs `image make` and `image show`.
 ghost use Rattle.std.specs.Prelude.{◌≡◌, ◌≢◌, OnOk, IfOk, IfSome, IsErrOf, Some, []};
 ghost use Rattle.sd_outside.specs.Causes.{Rose};
-ghost use Rattle.sd_claims.specs.Headline.{Writes};
 ghost use Rattle.sd_config.specs.Config.{IsSwap};
 ghost use Rattle.sd_boot.specs.Images.{Answers, EndsSo, IsNewImage, IsRefusalLine};
-ghost use Rattle.sd_boot.specs.Play.{GainsSome};
+ghost use Rattle.sd_streams.specs.Writing.{GainsSome, Writes};
 
 use crate::held_files::files_text;
 use crate::input::read_all;
@@ -62,8 +61,8 @@ fn image_refusal(alloc: Global, error: OpenError) -> Result<ByteList, NoMemory>
             line.push_slice(b"version ")?;
             push_number(alloc, &mut line, u64::from(got))?;
         }
-        OpenError::NoMemory => return Err(NoMemory),
-        OpenError::DiskFault => unreachable!(),
+        // A calm disk has no fault.
+        OpenError::NoMemory | OpenError::DiskFault => return Err(NoMemory),
     }
     line.push_slice(b"\n")?;
     Ok(line)

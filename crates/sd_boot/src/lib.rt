@@ -4,7 +4,7 @@
 //! its answers are those of the boot machine, and each is earned or caused by its part of the run. For `show` and
 //! `pack` it is what each line of the input is turned into, or what the lines before the first refused one are, and its
 //! refusal. `image make` writes the image of a script's swap file, and `image show` the files that an image holds, or why it
-//! is refused. The adapters over standard input and output tell no bytes, and count their faults.
+//! is refused.
 #![tactic(auto)]
 
 mod held_files;
@@ -16,13 +16,8 @@ mod play;
 mod programs;
 mod replay;
 mod status;
-mod streams;
 mod words;
 
 pub use programs::run;
 pub use status::Status;
-pub use streams::{StandardInput, StandardOutput};
 pub use words::Text;
-
-#[cfg(test)]
-mod tests;

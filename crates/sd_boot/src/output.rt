@@ -2,15 +2,15 @@
 ghost use Rattle.std.specs.Prelude.{◌≡◌, OnOk, OnErr, IsErrOf, IfOk};
 ghost use Rattle.sd_outside.specs.Causes.{Rose};
 ghost use Rattle.sd_outside.specs.Streams.{Gains};
-ghost use Rattle.sd_boot_chain.specs.Writing.{GainsFront};
+ghost use Rattle.sd_streams.specs.Writing.{GainsFront};
 ghost use Rattle.sd_claims.specs.Headline.{refusal_line};
 ghost use Rattle.sd_boot.specs.PacketTexts.{place_line};
 ghost use Rattle.sd_boot.specs.Words.{usage_line};
 
 use crate::status::{Ended, Stop};
-use sd_boot_chain::write_all;
 use sd_outside::{ByteList, Failed, NoMemory, Sink};
 use sd_show::Word;
+use sd_streams::write_all;
 use std::alloc::Global;
 
 /// Writes a text, or a prefix of it where the sink fails.

@@ -3,8 +3,7 @@ ghost use Rattle.std.specs.Prelude.{◌≡◌, ◌≤◌, OnOk, IfOk, IfErr, IfS
 ghost use Rattle.sd_outside.specs.Causes.{Rose};
 ghost use Rattle.sd_script.specs.Grammar.{without_feed};
 ghost use Rattle.sd_script.specs.Limits.{input_limit};
-ghost use Rattle.sd_claims.specs.Headline.{Writes};
-ghost use Rattle.sd_boot.specs.Play.{GainsSome};
+ghost use Rattle.sd_streams.specs.Writing.{GainsSome, Writes};
 ghost use Rattle.sd_boot.specs.PacketTexts.{ShowsLine, PacksLine, Gives, IsNotGiven, IsLineRefused, Translates};
 
 use crate::input::{INPUT_LIMIT, read_all};

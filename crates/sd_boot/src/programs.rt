@@ -6,7 +6,8 @@ ghost use Rattle.sd_stable_disk.specs.Image.{opens, holds};
 ghost use Rattle.sd_stable_disk.specs.declared.errors.OpenError.{OpenError};
 ghost use Rattle.sd_script.specs.declared.script.Script.{Script};
 ghost use Rattle.sd_script.specs.Grammar.{IsScript};
-ghost use Rattle.sd_claims.specs.Headline.{IsTranscript, IsRefusal, IsFront, Writes};
+ghost use Rattle.sd_streams.specs.Writing.{Writes};
+ghost use Rattle.sd_claims.specs.Headline.{IsTranscript, IsRefusal, IsFront};
 ghost use Rattle.sd_boot.specs.PacketTexts.{IsShown, IsShowRefusal, IsShowFront, IsPacked, IsPackRefusal, IsPackFront};
 ghost use Rattle.sd_boot.specs.Images.{IsImageOf, IsImageFront, IsShownImage, IsImageRefusal, IsShownFront};
 ghost use Rattle.sd_boot.specs.Programs.{Performs};
@@ -60,8 +61,8 @@ pub fn run<S: Source, K: Sink>(
 ) -> Status
     // The headline. The words are `replay`, and all was done: the output is the transcript of a script that the input
     // spells. Its steps are a lawful run that ends where the server has done all that was due to it, its answers are those of
-    // the boot machine, each is earned or caused by its part, and all are ok where the network loses, delays and repeats
-    // nothing and the client waits two ticks or more.
+    // the boot machine, each is earned or caused by its part, and in a calm script, which has no event line and
+    // no boot, and whose client waits two ticks or more, all are ok.
     ensures transcript { IsReplay words.now → result.0 ≡ 0 →
         Writes (S.left source.old) (K.written sink.old) (K.written sink.new) IsTranscript }
     // Refused: the output is the line that names the first line outside the grammar.

@@ -1,8 +1,7 @@
 //! The program `replay`.
 ghost use Rattle.std.specs.Prelude.{◌≡◌, OnOk, IfOk, IfSome, IsErrOf, Some, []};
 ghost use Rattle.sd_outside.specs.Causes.{Rose};
-ghost use Rattle.sd_claims.specs.Headline.{Writes};
-ghost use Rattle.sd_boot.specs.Play.{GainsSome};
+ghost use Rattle.sd_streams.specs.Writing.{GainsSome, Writes};
 ghost use Rattle.sd_boot.specs.Replay.{Replays};
 
 use crate::input::read_all;

@@ -7,14 +7,14 @@ use Rattle.sd_config.specs.declared.stage.Stage.TheVariants as stage
 use Rattle.sd_config.specs.Config.{IsFor}
 use Rattle.sd_link.specs.Link.{IsSettledBy}
 use Rattle.sd_link.specs.Steps.{Step, History}
-use Rattle.sd_link.specs.Tries.{Answered, Flooded, TimedOut}
-use Rattle.sd_config.specs.declared.told.Told.TheVariants.{AddrOk, AddrTimeout, AddrFlood}
+use Rattle.sd_link.specs.Tries.{Answered, Flooded, TimedOut, Failed}
+use Rattle.sd_config.specs.declared.told.Told.TheVariants.{AddrOk, AddrTimeout, AddrFlood, AddrLinkFault}
 use Rattle.sd_claims.specs.Rarp.{rarp_request, rarp_hearing}
 use Rattle.sd_claims.specs.Booting.{LearnsAddress}
-use Rattle.sd_claims.specs.Causes.{addr_ok, addr_timeout, addr_flood, AddressTimedOut, AddressFlooded}
+use Rattle.sd_claims.specs.Causes.{addr_ok, addr_timeout, addr_flood, addr_linkfault, AddressTimedOut, AddressFlooded, AddressFailed}
 use Rattle.sd_rpc_retry.specs.Asking.{IsAsked}
 use Rattle.sd_rpc_retry.specs.declared.asking.Asked.{Asked}
-use Rattle.sd_rpc_retry.specs.declared.asking.Asked.TheVariants.{Answer, Timeout, Flood}
+use Rattle.sd_rpc_retry.specs.declared.asking.Asked.TheVariants.{Answer, Timeout, Flood, Fault}
 use Rattle.sd_boot_chain.specs.Address.{shows_learned, IsAddrAnswer}
 use Rattle.sd_boot_chain.specs.declared.address.Learned as code
 
@@ -37,6 +37,9 @@ module _ (client : ClientConfig) (h : History) (part : List Step) (is : IsFor h.
   pub address_full : AsksAddress client Flood h part → AddressFlooded (IsSettledBy h) h.config part
   address_full a = as_config h.config client (λ m tries wait. Flooded (IsSettledBy h) (rarp_request m) (rarp_hearing m) tries wait part) is a.came
 
+  pub address_broken : AsksAddress client Fault h part → AddressFailed (IsSettledBy h) h.config part
+  address_broken a = as_config h.config client (λ m tries wait. Failed (IsSettledBy h) (rarp_request m) (rarp_hearing m) tries wait part) is a.came
+
 pub address_told : (client : ClientConfig) (h : History) (part : List Step) (learned : code.Learned) → AsksAddress client (Answer learned) h part → IsAddrAnswer client (AddrOk learned.address) h part
 address_told client h part learned a is = (
   λ n. addr_ok (shows_learned learned) part (told_address client h part is learned a),
@@ -48,3 +51,6 @@ address_timeout client h part a is = (λ n. addr_timeout part (address_vain clie
 
 pub address_flood : (client : ClientConfig) (h : History) (part : List Step) → AsksAddress client Flood h part → IsAddrAnswer client (AddrFlood stage.Rarp) h part
 address_flood client h part a is = (λ n. addr_flood part (address_full client h part is a), λ was. a.ended (λ packet. refl) was)
+
+pub address_failed : (client : ClientConfig) (h : History) (part : List Step) → AsksAddress client Fault h part → IsAddrAnswer client AddrLinkFault h part
+address_failed client h part a is = (λ n. addr_linkfault part (address_broken client h part is a), tt)

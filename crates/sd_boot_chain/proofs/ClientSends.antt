@@ -11,16 +11,15 @@ use Rattle.sd_tftp.specs.Reading.{reading}
 use Rattle.sd_config.specs.declared.config.Config.{Config}
 use Rattle.sd_config.specs.Config.{IsConfig}
 use Rattle.sd_config.specs.Program.{program_name}
-use Rattle.sd_services.specs.RpcReply.{program_at}
-use Rattle.sd_link.specs.World.{World, Sender, Client, Server, start}
+use Rattle.sd_link.specs.World.{World, Sender, Client, Server, Stranger, start}
 use Rattle.sd_link.specs.Steps.{Step, Get, run, AllAllowed}
 use Rattle.sd_link.specs.Parts.{sends_in, got_in}
 use Rattle.sd_link.specs.Requests.{AsksOnlyFor, IsRpcPort, KeepsOffRpc}
 use Rattle.sd_link.specs.Tries.{EndsMatched}
-use Rattle.sd_link.proofs.InFlight.{IsTftpPort, SentFine, FlyingFine, Keeps}
+use Rattle.sd_link.proofs.InFlight.{SentFine, FlyingFine, Keeps}
 use Rattle.sd_config.proofs.Lists.{all_always, all_at, all_weaker}
 use Rattle.sd_services.proofs.NoRequests.{ack_asks_not, error_asks_not}
-use Rattle.sd_link.proofs.FromServer.{AnyPacket, AnySession}
+use Rattle.sd_link.proofs.FromServer.{AnyPacket, AnySession, IsServers, ComesToClient, servers_run, servers_got}
 use Rattle.sd_config.specs.declared.command.Command.{Command}
 use Rattle.sd_config.specs.declared.told.Told.{Told}
 use Rattle.sd_claims.specs.Rarp.{Learned, learned_in, learned_from}
@@ -30,18 +29,16 @@ use Rattle.sd_boot_chain.proofs.Fetched.{got_cut}
 use Rattle.sd_boot_chain.proofs.FetchSends.{Sends}
 use Rattle.sd_boot_chain.proofs.PartSends.{SendsAll, part_sends}
 use Rattle.sd_boot_chain.proofs.TrustedFile.{request_names}
-use Rattle.sd_boot_chain.proofs.Quiet.{IsQuiet, IsTftpTo, short_silent, quiet_run, quiet_got}
-use Rattle.sd_boot_chain.proofs.KeptOff.{AnyAddr, no_rpc, tftp_quiet, ack_short, error_short}
+use Rattle.sd_boot_chain.proofs.KeptOff.{AnyAddr, no_rpc, ack_short, error_short}
 use Rattle.sd_link.proofs.ProgramNames.{program_name_clean}
 
--- a datagram of a fetch: from a fetch's port at the client's address to a TFTP port of the server; a request in it is for the boot
--- program
+-- A datagram of a fetch: from a fetch's port at the client's address. A request in it is for the boot program, and to a port of an
+-- RPC program goes nothing that has the size of a message.
 pub record IsFetchDatagram (c : Config) (src dst : Addr) (body : List ℕ) : Type 0 where
   pub ip : src.ip ≡ c.client.ip
   pub port : 2048 ≤ src.port
-  pub to_ip : dst.ip ≡ c.server.ip
-  pub to_port : IsTftpPort dst.port
   pub asks : (asked mode : List ℕ) → reading body ≡ Ok (Rrq asked mode) → asked ≡ program_name c.arch c.client.ip
+  pub short : IsRpcPort dst.port → length body < 8
 
 -- a call: from port 1021 at the client's address
 abbrev pub IsCallFrom : Config → Addr → Type 0
@@ -56,20 +53,9 @@ IsClients c (Udp src dst body) = IsFetchDatagram c src dst body ⊎ IsCallFrom c
 abbrev pub Fetches : Config → Addr → Type 0
 Fetches c a = (a.ip ≡ c.client.ip) × (2048 ≤ a.port)
 
-pub fetches_away : (c : Config) → IsConfig c → (a : Addr) → Fetches c a → a.ip ≢ c.server.ip
-fetches_away c is a m e = is.ips (sym e ∙ m.0)
-
--- what the server sends: from its ports of TFTP where files are fetched
-abbrev pub IsSent : (c : Config) → IsConfig c → Packet → Type 0
-IsSent c is = IsTftpTo c is (Fetches c) (fetches_away c is)
-
--- every packet in flight is the client's or the server's as it should be
-abbrev pub IsHonest : (c : Config) → IsConfig c → World → Type 0
-IsHonest c is w = Keeps (IsClients c) (IsSent c is) AnySession w
-
--- where a fetch hears the server
-abbrev pub IsServersAddr : Config → Addr → Type 0
-IsServersAddr c a = (a.ip ≡ c.server.ip) × IsTftpPort a.port
+-- every packet in flight is the client's, the server's or a stranger's as it should be
+abbrev pub IsHonest : Config → World → Type 0
+IsHonest c w = Keeps c (IsClients c) (IsServers c) AnySession w
 
 -- ---- what RARP told it
 
@@ -82,20 +68,20 @@ learned_if c true learned e = let same : (let l : Learned = record { address = c
     record { address = sym (ap (λ (l : Learned). l.address) same); responder = sym (ap (λ (l : Learned). l.responder) same) }
 learned_if c false learned e = absurd (cc)
 
-learned_right : (c : Config) (is : IsConfig c) (packet : Packet) (learned : Learned) → IsSent c is packet → learned_from c.client.mac packet ≡ Some learned → LearnedRight c learned
-learned_right c is (Frame bytes) learned tells e = learned_if c (is_mac c.client.mac c.client.mac) learned (sym (ap (learned_in c.client.mac) tells.reads) ∙ e)
-learned_right c is (Udp src dst body) learned tells e = absurd (cc)
+learned_right : (c : Config) (packet : Packet) (learned : Learned) → ComesToClient c packet → learned_from c.client.mac packet ≡ Some learned → LearnedRight c learned
+learned_right c (Frame bytes) learned tells e = learned_if c (is_mac c.client.mac c.client.mac) learned (sym (ap (learned_in c.client.mac) tells.reads) ∙ e)
+learned_right c (Udp src dst body) learned tells e = absurd (cc)
 
 -- What the client learns from the server is its own address and the server's.
-pub answered_right : (c : Config) (is : IsConfig c) (learned : Learned) (part : List Step) → EndsMatched (learned_from c.client.mac) learned part → AllByRecursion (IsSent c is) (got_in part) → LearnedRight c learned
-answered_right c is learned part h all =
-    learned_right c is h.packet learned (got_cut (IsSent c is) part h.before (Get h.id h.packet ∷ []) h.cut all).1.0 h.matched
+pub answered_right : (c : Config) (learned : Learned) (part : List Step) → EndsMatched (learned_from c.client.mac) learned part → AllByRecursion (ComesToClient c) (got_in part) → LearnedRight c learned
+answered_right c learned part h all =
+    learned_right c h.packet learned (got_cut (ComesToClient c) part h.before (Get h.id h.packet ∷ []) h.cut all).1.0 h.matched
 
 module _ (c : Config) (is : IsConfig c) where
   -- ---- what it sends
 
-  -- the fetch of a boot
-  boot_sends : (boots : ℕ) (learned : Learned) → LearnedRight c learned → Sends (boot_fetch c boots learned) (IsClients c) (IsSent c is) (IsServersAddr c)
+  -- the fetch of a boot, whatever it hears
+  boot_sends : (boots : ℕ) (learned : Learned) → LearnedRight c learned → Sends (boot_fetch c boots learned) (IsClients c) (ComesToClient c) AnyAddr
   boot_sends boots learned right =
       let f = boot_fetch c boots learned in
       let clean : HasNoZero (program_name c.arch learned.address) = program_name_clean c.arch learned.address is.arch (omega (arith, is.client.ip.1, right.address)) in
@@ -103,102 +89,66 @@ module _ (c : Config) (is : IsConfig c) where
         request = inl (record {
           ip = right.address;
           port = omega arith;
-          to_ip = right.responder;
-          to_port = inl refl;
           asks = λ asked mode reads. request_names (program_name c.arch learned.address) asked mode clean reads ∙ ap (program_name c.arch) right.address;
+          short = λ rpc. absurd (no_rpc rpc);
         });
-        acks = λ to n a. inl (record { ip = right.address; port = omega arith; to_ip = a.0; to_port = a.1; asks = λ asked mode reads. absurd (ack_asks_not n asked mode reads) });
-        away = λ to a. inl (record { ip = right.address; port = omega arith; to_ip = a.0; to_port = a.1; asks = λ asked mode reads. absurd (error_asks_not 5 [] asked mode reads) });
-        heard = λ from to body ip port g. (g.0.ip, g.1 (ip ∙ right.address, omega (arith, port)));
+        acks = λ to n a. inl (record { ip = right.address; port = omega arith; asks = λ asked mode reads. absurd (ack_asks_not n asked mode reads); short = λ rpc. ack_short n });
+        away = λ to a. inl (record { ip = right.address; port = omega arith; asks = λ asked mode reads. absurd (error_asks_not 5 [] asked mode reads); short = λ rpc. error_short });
+        heard = λ from to body ip port g. tt;
       }
 
-  sends_all : SendsAll c (IsClients c) (IsSent c is) (IsServersAddr c)
+  sends_all : SendsAll c (IsClients c) (ComesToClient c) AnyAddr
   sends_all = record {
     frames = λ bytes. tt;
-    fetches = λ boots learned t. boot_sends boots learned (answered_right c is learned t.address t.told t.got);
-    calls = λ boots learned t xid call. inr ((answered_right c is learned t.address t.told t.got).address, refl);
+    fetches = λ boots learned t. boot_sends boots learned (answered_right c learned t.address t.told t.got);
+    calls = λ boots learned t xid call. inr ((answered_right c learned t.address t.told t.got).address, refl);
   }
-
-  -- whatever it gets, the RPC programs answer nothing that a fetch sends
-  Quiet : Packet → Type 0
-  Quiet = IsQuiet c is (Fetches c) (fetches_away c is)
-
-  udp_parts : (a b from to : Addr) (xs ys : List ℕ) → Udp a b xs ≡ Udp from to ys → (a ≡ from) × (b ≡ to) × (xs ≡ ys)
-  udp_parts a b from to xs ys e = (cc, cc, cc)
-
-  not_udp : (bytes : List ℕ) (from to : Addr) (ys : List ℕ) → Frame bytes ≡ Udp from to ys → ⊥
-  not_udp bytes from to ys e = cc
-
-  body_quiet : (a b : Addr) (xs : List ℕ) → length xs < 8 → Quiet (Udp a b xs)
-  unfolding Quiet
-  body_quiet a b xs short from to body e m rpc = short_silent (program_at c to.port) body (subst (λ (l : List ℕ). length l < 8) (udp_parts a b from to xs body e).2 short)
-
-  quiet_all : SendsAll c Quiet AnyPacket AnyAddr
-  unfolding Quiet
-  quiet_all = record {
-    frames = λ bytes from to body e. absurd (not_udp bytes from to body e);
-    fetches = λ boots learned t. record {
-      request = λ from to body e m rpc. tftp_quiet c to (inl (sym (ap (λ (a : Addr). a.port) (udp_parts _ _ from to _ body e).1))) rpc body;
-      acks = λ to n a. body_quiet _ to _ (ack_short n);
-      away = λ to a. body_quiet _ to _ error_short;
-      heard = λ from to body ip port g. tt;
-    };
-    calls = λ boots learned t xid call from to body e m rpc. let low : 1021 ≡ from.port = ap (λ (a : Addr). a.port) (udp_parts _ _ from to _ body e).0 in absurd (omega (arith, low, m.1));
-  }
-
-  quiet_sends : (settled : List Step → Type 0) (n : Counts) (command : Command) (answer : Told) (part : List Step) → Cause settled c n command answer part → AllByRecursion Quiet (sends_in part)
-  quiet_sends settled n command answer part caused = part_sends c Quiet AnyPacket AnyAddr quiet_all settled n command answer part caused (all_always AnyPacket (got_in part) (λ p. tt))
-
-  -- what the client sends is so
-  clients_quiet : (packet : Packet) → IsClients c packet → Quiet packet
-  unfolding Quiet
-  clients_quiet (Frame bytes) h from to body e m rpc = absurd (not_udp bytes from to body e)
-  clients_quiet (Udp src dst own) (inl h) from to body e m rpc = tftp_quiet c to (subst (λ (a : Addr). IsTftpPort a.port) (udp_parts src dst from to own body e).1 h.to_port) rpc body
-  clients_quiet (Udp src dst own) (inr h) from to body e m rpc = let low : src.port ≡ from.port = ap (λ (a : Addr). a.port) (udp_parts src dst from to own body e).0 in absurd (omega (arith, low, h.1, m.1))
 
   -- ---- worlds
 
-  quiet_sent : (from : Sender) (packet : Packet) → SentFine (IsClients c) (IsSent c is) from packet → SentFine Quiet (IsSent c is) from packet
-  quiet_sent Client packet h = clients_quiet packet h
-  quiet_sent Server packet h = h
+  any_client : (from : Sender) (packet : Packet) → SentFine c (IsClients c) (IsServers c) from packet → SentFine c AnyPacket (IsServers c) from packet
+  any_client Client packet h = tt
+  any_client Server packet h = h
+  any_client Stranger packet h = h
 
-  pub honest_start : IsHonest c is (start c)
+  pub honest_start : IsHonest c (start c)
   honest_start = (tt, tt)
 
-  -- What the client gets in a command is the server's.
-  pub honest_got : (settled : List Step → Type 0) (w : World) (n : Counts) (command : Command) (answer : Told) (part : List Step) → IsHonest c is w → AllAllowed c w part → Cause settled c n command answer part → AllByRecursion (IsSent c is) (got_in part)
-  unfolding Quiet
-  honest_got settled w n command answer part h allowed caused =
-      let quiet : Keeps Quiet (IsSent c is) AnySession w =
-      (all_weaker (FlyingFine (IsClients c) (IsSent c is)) (FlyingFine Quiet (IsSent c is)) w.flight (λ f k. quiet_sent f.from f.packet k) h.0, h.1) in
-      quiet_got c is (Fetches c) (fetches_away c is) Quiet (λ packet q. q) w part quiet (quiet_sends settled n command answer part caused) allowed
+  -- What the client gets from the server's address is the server's.
+  pub honest_got : (w : World) (part : List Step) → IsHonest c w → AllAllowed c w part → AllByRecursion (ComesToClient c) (got_in part)
+  honest_got w part h allowed =
+      servers_got c is AnyPacket w part (all_weaker (FlyingFine c (IsClients c) (IsServers c)) (FlyingFine c AnyPacket (IsServers c)) w.flight (λ f k. any_client f.from f.packet k) h.0, h.1)
+      (all_always AnyPacket (sends_in part) (λ p. tt)) allowed
 
   -- So what it sends is as it should be.
-  pub sends_right : (settled : List Step → Type 0) (w : World) (n : Counts) (command : Command) (answer : Told) (part : List Step) → IsHonest c is w → AllAllowed c w part → Cause settled c n command answer part → AllByRecursion (IsClients c) (sends_in part)
-  sends_right settled w n command answer part h allowed caused = part_sends c (IsClients c) (IsSent c is) (IsServersAddr c) sends_all settled n command answer part caused (honest_got settled w n command answer part h allowed caused)
+  pub sends_right : (settled : List Step → Type 0) (w : World) (n : Counts) (command : Command) (answer : Told) (part : List Step) → IsHonest c w → AllAllowed c w part → Cause settled c n command answer part → AllByRecursion (IsClients c) (sends_in part)
+  sends_right settled w n command answer part h allowed caused = part_sends c (IsClients c) (ComesToClient c) AnyAddr sends_all settled n command answer part caused (honest_got w part h allowed)
 
   -- After a command's part the world is so too.
-  pub honest_part : (settled : List Step → Type 0) (w : World) (n : Counts) (command : Command) (answer : Told) (part : List Step) → IsHonest c is w → AllAllowed c w part → Cause settled c n command answer part → IsHonest c is (run c w part)
-  unfolding Quiet
-  honest_part settled w n command answer part h allowed caused =
-      quiet_run c is (Fetches c) (fetches_away c is) (IsClients c) clients_quiet w part h (sends_right settled w n command answer part h allowed caused)
+  pub honest_part : (settled : List Step → Type 0) (w : World) (n : Counts) (command : Command) (answer : Told) (part : List Step) → IsHonest c w → AllAllowed c w part → Cause settled c n command answer part → IsHonest c (run c w part)
+  honest_part settled w n command answer part h allowed caused = servers_run c is (IsClients c) w part h (sends_right settled w n command answer part h allowed caused) allowed
+
+  fetches_away : (a : Addr) → Fetches c a → a.ip ≢ c.server.ip
+  fetches_away a m e = is.ips (sym e ∙ m.0)
 
   -- No other file than the boot program was ever asked for from where files are fetched.
-  clients_ask : (from : Sender) (me to : Addr) (body asked mode : List ℕ) → Fetches c me → SentFine (IsClients c) (IsSent c is) from (Udp me to body) → reading body ≡ Ok (Rrq asked mode) → asked ≡ program_name c.arch c.client.ip
+  clients_ask : (from : Sender) (me to : Addr) (body asked mode : List ℕ) → Fetches c me → SentFine c (IsClients c) (IsServers c) from (Udp me to body) → reading body ≡ Ok (Rrq asked mode) → asked ≡ program_name c.arch c.client.ip
   clients_ask Client me to body asked mode mine (inl h) reads = h.asks asked mode reads
   clients_ask Client me to body asked mode mine (inr h) reads = absurd (omega (arith, h.1, mine.1))
-  clients_ask Server me to body asked mode mine h reads = absurd (fetches_away c is me mine h.0.ip)
+  clients_ask Server me to body asked mode mine h reads = absurd (fetches_away me mine h.ip)
+  clients_ask Stranger me to body asked mode mine h reads = absurd (h.not_client mine.0)
 
-  pub honest_asks : (w : World) (me : Addr) → Fetches c me → IsHonest c is w → AsksOnlyFor me (program_name c.arch c.client.ip) w
+  pub honest_asks : (w : World) (me : Addr) → Fetches c me → IsHonest c w → AsksOnlyFor me (program_name c.arch c.client.ip) w
   honest_asks w me mine h id f to body asked mode at packet_is reads =
-      clients_ask f.from me to body asked mode mine (subst (λ (p : Packet). SentFine (IsClients c) (IsSent c is) f.from p) packet_is (all_at (FlyingFine (IsClients c) (IsSent c is)) w.flight id f h.0 at)) reads
+      clients_ask f.from me to body asked mode mine (subst (λ (p : Packet). SentFine c (IsClients c) (IsServers c) f.from p) packet_is (all_at (FlyingFine c (IsClients c) (IsServers c)) w.flight id f h.0 at)) reads
 
-  clients_keep_off : (from : Sender) (me to : Addr) (body : List ℕ) → Fetches c me → SentFine (IsClients c) (IsSent c is) from (Udp me to body) → IsRpcPort to.port → ⊥
-  clients_keep_off Client me to body mine (inl h) rpc = no_rpc to.port h.to_port rpc
-  clients_keep_off Client me to body mine (inr h) rpc = omega (arith, h.1, mine.1)
-  clients_keep_off Server me to body mine h rpc = fetches_away c is me mine h.0.ip
+  clients_keep_off : (from : Sender) (me to : Addr) (body : List ℕ) → Fetches c me → SentFine c (IsClients c) (IsServers c) from (Udp me to body) → IsRpcPort to.port → length body < 8
+  clients_keep_off Client me to body mine (inl h) rpc = h.short rpc
+  clients_keep_off Client me to body mine (inr h) rpc = absurd (omega (arith, h.1, mine.1))
+  clients_keep_off Server me to body mine h rpc = absurd (fetches_away me mine h.ip)
+  clients_keep_off Stranger me to body mine h rpc = absurd (h.not_client mine.0)
 
-  -- And nothing was ever sent from there to the RPC ports.
-  pub honest_keeps_off : (w : World) (me : Addr) → Fetches c me → IsHonest c is w → KeepsOffRpc me w
+  -- And nothing of a message's size was ever sent from there to the RPC ports.
+  pub honest_keeps_off : (w : World) (me : Addr) → Fetches c me → IsHonest c w → KeepsOffRpc me w
   honest_keeps_off w me mine h id f to body at packet_is rpc =
-      clients_keep_off f.from me to body mine (subst (λ (p : Packet). SentFine (IsClients c) (IsSent c is) f.from p) packet_is (all_at (FlyingFine (IsClients c) (IsSent c is)) w.flight id f h.0 at)) rpc
+      clients_keep_off f.from me to body mine (subst (λ (p : Packet). SentFine c (IsClients c) (IsServers c) f.from p) packet_is (all_at (FlyingFine c (IsClients c) (IsServers c)) w.flight id f h.0 at)) rpc

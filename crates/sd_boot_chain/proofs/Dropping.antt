@@ -6,7 +6,8 @@ use Rattle.sd_link.specs.World.{World}
 use Rattle.sd_link.specs.Steps.{Step, Get, History, world_of, run}
 use Rattle.sd_link.specs.Parts.{sends_in, got_in}
 use Rattle.sd_link.specs.declared.link.LinkError.{LinkError}
-use Rattle.sd_link.specs.Link.{GoesOn, Receives}
+use Rattle.sd_link.specs.declared.link.LinkError.TheVariants.{Failed, NoMemory}
+use Rattle.sd_link.specs.Link.{GoesOn, Hands, Receives}
 use Rattle.sd_link.proofs.Histories.{sends-append, got-append}
 use Rattle.sd_rpc_retry.specs.Lasting.{StaysBefore}
 use Rattle.sd_rpc_retry.proofs.Getting.{stays_then, at_end}
@@ -31,6 +32,11 @@ got_one until packet b ys r =
 got_nothing : (xs ys : List Step) → got_in ys ≡ [] → got_in (xs ++ ys) ≡ got_in xs
 got_nothing xs ys none = got-append xs ys ∙ ap (λ (l : List Packet). got_in xs ++ l) none ∙ append-nil (got_in xs)
 
+-- nothing is got where the waiting failed
+none_of : (until : ℕ) (b : History) (ys : List Step) (why : LinkError) → Hands until (Err why) b ys → got_in ys ≡ []
+none_of until b ys Failed h = h.2
+none_of until b ys NoMemory h = h
+
 module _ (until count : ℕ) (a b : History) (xs ys : List Step) (goes : GoesOn a b xs) (g : Gets until count a xs) where
   pub gets_packet : (packet : Packet) → Receives until (Ok (Some packet)) b ys → Gets until (count + 1) a (xs ++ ys)
   gets_packet packet r = record {
@@ -53,5 +59,5 @@ module _ (until count : ℕ) (a b : History) (xs ys : List Step) (goes : GoesOn 
   gets_error why r = record {
     silent = silent_then xs ys g.silent r.silent;
     ticks = stays_then a b xs ys until goes g.ticks r.ticks;
-    counted = ap length (got_nothing xs ys r.hands) ∙ g.counted;
+    counted = ap length (got_nothing xs ys (none_of until b ys why r.hands)) ∙ g.counted;
   }

@@ -1,5 +1,6 @@
 -- What a fetch sends: its request, and to those from whom it hears ACKs and refusals.
-use Rattle.std.proofs.Common.{◌≡◌, ℕ, ◌==◌, ◌&&◌, Bool, true, false, cond, List, [], ◌∷◌, ◌++◌, length, Option, Some, None, Result, Ok, Err, refl, sym, ◌∙◌, ap, subst}
+use Rattle.std.specs.Prelude.{◌⊎◌}
+use Rattle.std.proofs.Common.{inl, inr, ◌≡◌, ℕ, ◌==◌, ◌&&◌, Bool, true, false, cond, List, [], ◌∷◌, ◌++◌, length, Option, Some, None, Result, Ok, Err, refl, sym, ◌∙◌, ap, subst}
 use Rattle.std.specs.List.{AllByRecursion, flat_map}
 use Rattle.sd_outside.specs.declared.packet.Addr.{Addr}
 use Rattle.sd_outside.specs.declared.packet.Packet.{Packet}
@@ -13,13 +14,13 @@ use Rattle.sd_tftp.specs.Reception.{Reception}
 use Rattle.sd_tftp.specs.Receiving.{Receives}
 use Rattle.sd_tftp.specs.ReceiverTurn.{Turn, turn, ignored}
 use Rattle.sd_tftp.proofs.Receives.{receiving_is_turn}
-use Rattle.sd_link.specs.Steps.{Step, Send}
+use Rattle.sd_link.specs.Steps.{Step, Send, Get, Fail}
 use Rattle.sd_link.specs.Parts.{sends_in, got_in}
-use Rattle.sd_link.specs.Tries.{RepliesAtOnce, IsTries}
+use Rattle.sd_link.specs.Tries.{Hearing, RepliesAtOnce, IsTries, beyond, FailsToSend, FailsToHear, at_wait, at_reply, FailsToAsk, at_request, behind_request, Failed}
 use Rattle.sd_link.proofs.AtOnce.{replied_sends}
 use Rattle.sd_link.proofs.Histories.{sends-append}
 use Rattle.sd_config.proofs.Lists.{all_append}
-use Rattle.sd_claims.specs.Fetching.{Fetch, Takes, takes_none, takes_block, Fetched, Stops, read_request, acknowledge, turn_away, asked_by, request_of, turn_by, turn_on, courtesy, fetch_hearing}
+use Rattle.sd_claims.specs.Fetching.{Fetch, Takes, takes_none, takes_block, Fetched, Stops, FetchFailed, FailsToFinish, read_request, acknowledge, turn_away, asked_by, request_of, turn_by, turn_on, courtesy, fetch_hearing}
 use Rattle.std.proofs.lemmas.Bool.{eqb-true}
 use Rattle.sd_boot_chain.proofs.Turned.{and_first, and_second}
 use Rattle.sd_boot_chain.proofs.Fetched.{got_split, got_cut, Moved, moved_by, took_by}
@@ -44,6 +45,37 @@ module _ (S G : Packet → Type 0) (request : Packet) (replies : Packet → List
   pub tries_send : (rests : List (List Step)) (part : List Step) → IsTries request replies rests part → AllByRecursion G (got_in part) → AllByRecursion S (sends_in part)
   tries_send rests part is all =
       subst (λ (l : List Step). AllByRecursion S (sends_in l)) (sym is.cut) (rests_send rests is.replied (subst (λ (l : List Step). AllByRecursion G (got_in l)) is.cut all))
+
+-- ---- tries the last of which failed
+
+sent_or_not : (S : Packet → Type 0) (packet : Packet) (part : List Step) → S packet → FailsToSend packet part → AllByRecursion S (sends_in part)
+sent_or_not S packet part ok (inl is) = subst (λ (l : List Step). AllByRecursion S (sends_in l)) (sym is) tt
+sent_or_not S packet part ok (inr is) = subst (λ (l : List Step). AllByRecursion S (sends_in l)) (sym is) (ok, tt)
+
+both_sent : (S : Packet → Type 0) (xs ys : List Step) → AllByRecursion S (sends_in xs) → AllByRecursion S (sends_in ys) → AllByRecursion S (sends_in (xs ++ ys))
+both_sent S xs ys first second = subst (λ (l : List Packet). AllByRecursion S l) (sym (sends-append xs ys)) (all_append S (sends_in xs) (sends_in ys) first second)
+
+module _ {X : Type 0} (S G : Packet → Type 0) (request : Packet) (h : Hearing X) (asks : S request) (so : (p : Packet) → G p → AllByRecursion S (h.replies p)) where
+  rest_sends : (rest : List Step) → RepliesAtOnce h.replies rest → AllByRecursion G (got_in rest) → AllByRecursion S (sends_in rest)
+  rest_sends rest replied all = subst (λ (l : List Packet). AllByRecursion S l) (sym (replied_sends h.replies rest replied)) (replies_send S G h.replies so (got_in rest) all)
+
+  hear_sends : (part : List Step) → FailsToHear h part → AllByRecursion G (got_in part) → AllByRecursion S (sends_in part)
+  hear_sends _ (at_wait rest replied) all = both_sent S rest (Fail ∷ []) (rest_sends rest replied (got_split G rest (Fail ∷ []) all).0) tt
+  hear_sends _ (at_reply rest id packet reply failed replied is fails) all =
+      let g = got_split G rest (Get id packet ∷ failed) all in
+      let ok : AllByRecursion S (reply ∷ []) = subst (λ (l : List Packet). AllByRecursion S l) is (so packet g.1.0) in
+      both_sent S rest (Get id packet ∷ failed) (rest_sends rest replied g.0) (sent_or_not S reply failed ok.0 fails)
+
+  ask_sends : (part : List Step) → FailsToAsk request h part → AllByRecursion G (got_in part) → AllByRecursion S (sends_in part)
+  ask_sends _ (at_request part fails) all = sent_or_not S request part asks fails
+  ask_sends _ (behind_request rest fails) all = (asks, hear_sends rest fails all)
+
+  -- all that they send: the request, and the replies to what was got
+  pub failed_sends : (settled : List Step → Type 0) (tries wait : ℕ) (part : List Step) → Failed settled request h tries wait part → AllByRecursion G (got_in part) → AllByRecursion S (sends_in part)
+  failed_sends settled tries wait part f all =
+      let g = got_cut G part f.before f.last f.cut all in
+      subst (λ (l : List Step). AllByRecursion S (sends_in l)) (sym f.cut)
+      (both_sent S f.before f.last (tries_send S G request h.replies asks so f.rests f.before f.is g.0) (ask_sends f.last f.fails g.1))
 
 -- ---- a fetch
 
@@ -148,3 +180,21 @@ module _ (f : Fetch) (S G : Packet → Type 0) (A : Addr → Type 0) (k : Sends 
       subst (λ (p : List Step). AllByRecursion S (sends_in p)) (sym h.cut)
       (subst (λ (p : List Packet). AllByRecursion S p) (sym (sends-append h.before h.last))
       (all_append S (sends_in h.before) (sends_in h.last) t.0 (fetch_tries h.taken is.0 h.last t.1 is.1 g.1)))
+
+  -- the network failed in the tries of a request, or at the last ACK
+  stopped_sends : (still : List Step → Type 0) (r : Reception) (last : List Step) → PeerFine r → Failed still (request_of f r) (fetch_hearing f.me r) f.tries f.wait last ⊎ FailsToFinish still f r last → AllByRecursion G (got_in last) → AllByRecursion S (sends_in last)
+  stopped_sends still r last peer (inl failed) all = failed_sends S G (request_of f r) (fetch_hearing f.me r) (asked_sends r peer) (λ p g. reply_sends r p g) still f.tries f.wait last failed all
+  stopped_sends still r last peer (inr h) all =
+      let g = got_cut G last h.block h.failed h.cut all in
+      let m = moved_by G f r h.final h.block h.brings g.0 in
+      let b = took_by G f r h.final h.to h.number true h.says m in
+      let ok : S (acknowledge f.me h.to h.number) = k.acks h.to h.number (subst A (sym b.to_is) (from_heard r h.final m)) in
+      let tried = fetch_tries r (h.brings.asks.before ++ h.brings.asks.last ∷ []) h.block peer h.brings.asks.is g.0 in
+      subst (λ (p : List Step). AllByRecursion S (sends_in p)) (sym h.cut) (both_sent S h.block h.failed tried (sent_or_not S (acknowledge f.me h.to h.number) h.failed ok h.fails))
+
+  -- and all that one sends in which the network failed
+  pub failed_fetch_sends : (still : List Step → Type 0) (part : List Step) → FetchFailed still f part → AllByRecursion G (got_in part) → AllByRecursion S (sends_in part)
+  failed_fetch_sends still part h all =
+      let g = got_cut G part h.before h.last h.cut all in
+      let t = takes_send h.takes g.0 in
+      subst (λ (p : List Step). AllByRecursion S (sends_in p)) (sym h.cut) (both_sent S h.before h.last t.0 (stopped_sends (beyond still h.before) h.taken h.last t.1 h.stopped g.1))

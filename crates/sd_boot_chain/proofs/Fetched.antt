@@ -16,7 +16,8 @@ use Rattle.sd_config.specs.Program.{boot_file}
 use Rattle.sd_link.specs.Steps.{Step, Send, Get}
 use Rattle.sd_link.specs.Parts.{got_in}
 use Rattle.sd_link.proofs.Histories.{got-append}
-use Rattle.sd_config.proofs.Lists.{all_split}
+use Rattle.sd_config.proofs.Lists.{all_split, all_always}
+use Rattle.sd_link.proofs.FromServer.{AnyPacket}
 use Rattle.sd_link.proofs.BlocksInFlight.{Carries, IsBlockOf}
 use Rattle.sd_claims.specs.Fetching.{Fetch, Brings, Takes, takes_none, takes_block, Fetched, acknowledge}
 use Rattle.sd_boot_chain.proofs.Turned.{Turned, turned, TookBlock, took_block}
@@ -62,24 +63,31 @@ record Taken (c : Config) (f : Fetch) (r new : Reception) (last : Bool) : Type 0
   pub new_is : new.blocks ≡ r.blocks ++ body ∷ []
   pub short : last ≡ true → length body < 512
 
-taken_by : (c : Config) (f : Fetch) (r : Reception) (t : Turn) (to : Addr) (n : ℕ) (last : Bool) → t.says ≡ step.Took to n last → Moved f r t (Carries c f.me f.name) → Taken c f r t.becomes last
-taken_by c f r t to n last e m =
+taken_by : (c : Config) (f : Fetch) (r : Reception) (t : Turn) (to : Addr) (n : ℕ) (last : Bool) → t.says ≡ step.Took to n last → r.server ≡ c.server.ip → Moved f r t (Carries c f.me f.name) → Taken c f r t.becomes last
+taken_by c f r t to n last e server m =
     let k = took_by (Carries c f.me f.name) f r t to n last e m in
     let u = m.turned_on in
     let mine : m.packet ≡ Udp u.from f.me u.body = u.packet_is ∙ ap (λ (a : Addr). Udp u.from a u.body) (same_addr u.to f.me u.to_ip u.to_port) in
     record {
       number = n;
       body = k.body;
-      of = m.holds u.from u.body k.body n mine (u.reads ∙ ap (λ (p : TftpPacket). Ok p) k.inner_is);
+      of = m.holds u.from u.body k.body n mine (k.from_ip ∙ server) (u.reads ∙ ap (λ (p : TftpPacket). Ok p) k.inner_is);
       number_is = k.number;
       new_is = ap (λ (s : Reception). s.blocks) k.new_is;
       short = k.short;
     }
 
+-- the receiver listens to the address that was asked
+takes_server : {settled : List Step → Type 0} {f : Fetch} {part : List Step} {r : Reception} → Takes settled f part r → r.server ≡ f.server
+takes_server takes_none = refl
+takes_server {f = f} (takes_block part more r t before brings next) =
+    let m = moved_by AnyPacket f r t more brings (all_always AnyPacket (got_in more) (λ p. tt)) in
+    ap (λ (s : Reception). s.server) (took_by AnyPacket f r t next.0 next.1 false next.2 m).new_is ∙ takes_server before
+
 same_file : (o : Option (List ℕ)) (a b : List ℕ) → o ≡ Some a → o ≡ Some b → a ≡ b
 same_file o a b e h = cc
 
-module _ (c : Config) (f : Fetch) (file : List ℕ) (is : boot_file c f.name ≡ Some file) where
+module _ (c : Config) (f : Fetch) (file : List ℕ) (is : boot_file c f.name ≡ Some file) (server : f.server ≡ c.server.ip) where
   more_blocks : (r new : Reception) (last : Bool) → AreBlocksOf file 1 r.blocks → Taken c f r new last → AreBlocksOf file 1 new.blocks
   more_blocks r new last are t =
       let same : t.of.file ≡ file = same_file (boot_file c f.name) t.of.file file t.of.found is in
@@ -93,18 +101,18 @@ module _ (c : Config) (f : Fetch) (file : List ℕ) (is : boot_file c f.name ≡
   taken_blocks (takes_block part more r t before brings next) all =
       let s = got_split (Carries c f.me f.name) part more all in
       more_blocks r t.becomes false (taken_blocks before s.0)
-      (taken_by c f r t next.0 next.1 false next.2 (moved_by (Carries c f.me f.name) f r t more brings s.1))
+      (taken_by c f r t next.0 next.1 false next.2 (takes_server before ∙ server) (moved_by (Carries c f.me f.name) f r t more brings s.1))
 
--- What was fetched is the configured file, where each block that came was that file's.
-pub fetched_file : {settled : List Step → Type 0} (c : Config) (f : Fetch) (bytes : List ℕ) (part : List Step) → Fetched settled f bytes part → AllByRecursion (Carries c f.me f.name) (got_in part) → boot_file c f.name ≡ Some bytes
-fetched_file c f bytes part h all =
+-- What was fetched from the server is the configured file, where each block that came from there was that file's.
+pub fetched_file : {settled : List Step → Type 0} (c : Config) (f : Fetch) (bytes : List ℕ) (part : List Step) → f.server ≡ c.server.ip → Fetched settled f bytes part → AllByRecursion (Carries c f.me f.name) (got_in part) → boot_file c f.name ≡ Some bytes
+fetched_file c f bytes part server h all =
     let P = Carries c f.me f.name in
     let s = got_cut P part h.before (h.last ++ Send (acknowledge f.me h.to h.number) ∷ []) h.cut all in
     let l = got_split P h.last (Send (acknowledge f.me h.to h.number) ∷ []) s.1 in
-    let t = taken_by c f h.taken h.final h.to h.number true h.says (moved_by P f h.taken h.final h.last h.brings l.0) in
+    let t = taken_by c f h.taken h.final h.to h.number true h.says (takes_server h.takes ∙ server) (moved_by P f h.taken h.final h.last h.brings l.0) in
     let file = t.of.file in
-    let are = taken_blocks c f file t.of.found h.takes s.0 in
+    let are = taken_blocks c f file t.of.found server h.takes s.0 in
     let ends : EndsShort h.final.becomes.blocks = record { front = h.taken.blocks; final = t.body; blocks_are = t.new_is; short = t.short refl } in
     let joined : concat h.final.becomes.blocks ≡ file =
-    blocks_are_the_file file h.final.becomes.blocks (more_blocks c f file t.of.found h.taken h.final.becomes true are t) ends in
+    blocks_are_the_file file h.final.becomes.blocks (more_blocks c f file t.of.found server h.taken h.final.becomes true are t) ends in
     t.of.found ∙ ap (λ (l : List ℕ). Some l) (sym joined ∙ sym h.joined)

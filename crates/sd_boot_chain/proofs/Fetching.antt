@@ -1,5 +1,5 @@
 -- A fetch, block after block.
-use Rattle.std.proofs.Common.{◌≡◌, ◌≢◌, ◌≤◌, ℕ, ◌+◌, ◌<◌, Bool, true, false, List, [], ◌∷◌, ◌++◌, length, Option, refl, sym, ◌∙◌, ap, subst, arith, append_assoc, length-append}
+use Rattle.std.proofs.Common.{inl, inr, ◌≡◌, ◌≢◌, ◌≤◌, ℕ, ◌+◌, ◌<◌, Bool, true, false, List, [], ◌∷◌, ◌++◌, length, Option, refl, sym, ◌∙◌, ap, subst, arith, append_assoc, length-append}
 use Rattle.sd_outside.specs.declared.packet.Addr.{Addr}
 use Rattle.sd_outside.specs.declared.packet.Packet.{Packet}
 use Rattle.sd_tftp.specs.declared.step.Step as answers
@@ -8,7 +8,7 @@ use Rattle.sd_tftp.specs.ReceiverTurn.{Turn}
 use Rattle.sd_tftp.specs.Reception.{Reception, fresh, with_block}
 use Rattle.sd_link.specs.Steps.{Step, Send, History}
 use Rattle.sd_link.specs.Link.{GoesOn, Moves, IsSettledBy}
-use Rattle.sd_link.specs.Tries.{beyond, TimedOut, Flooded}
+use Rattle.sd_link.specs.Tries.{beyond, TimedOut, Flooded, Failed, FailsToSend}
 use Rattle.sd_link.proofs.Histories.{moves_not, moves_then}
 use Rattle.sd_claims.specs.Fetching.{Fetch, Takes, takes_none, takes_block, Brings, request_of, acknowledge, fetch_hearing}
 use Rattle.sd_rpc_retry.specs.declared.asking.Asked.{Asked}
@@ -82,6 +82,18 @@ module _ (f : Fetch) (old mid new : Option History) (r s : Reception) (first : M
         cut = refl;
       }) first second
 
+  pub came_fault : Moves mid new (AsksNext f r s asked.Fault) → Moves old new (CameOf f came.Fault)
+  came_fault second =
+      moves_then old mid new (HasTaken f r) (AsksNext f r s asked.Fault) (CameOf f came.Fault)
+      (λ a b xs ys goes t k. record {
+        before = xs;
+        last = ys;
+        taken = r;
+        takes = t;
+        stopped = inl (subst (λ (still : List Step → Type 0). Failed still (request_of f r) (fetch_hearing f.me r) f.tries f.wait ys) (settled-beyond a b xs goes) k.came);
+        cut = refl;
+      }) first second
+
   pub came_refused : (code : ℕ) → Moves mid new (AsksNext f r s (asked.Answer (moves.Refused code))) → Moves old new (CameOf f (came.Refused code))
   came_refused code second =
       moves_then old mid new (HasTaken f r) (AsksNext f r s (asked.Answer (moves.Refused code))) (CameOf f (came.Refused code))
@@ -127,7 +139,24 @@ finishes_is f s to n request is came.Timeout a b xs ys h k = absurd k
 finishes_is f s to n request is came.Flood a b xs ys h k = absurd k
 finishes_is f s to n request is (came.Refused code) a b xs ys h k = absurd k
 finishes_is f s to n request is (came.TooLarge got) a b xs ys h k = absurd k
-finishes_is f s to n request is came.Fault a b xs ys h k = tt
+finishes_is f s to n request is came.Fault a b xs ys h k = record {
+  before = h.before;
+  last = h.last ++ ys;
+  taken = h.taken;
+  takes = h.takes;
+  stopped = inr (record {
+    block = h.last;
+    failed = ys;
+    final = record { says = step.Took to n true; becomes = s };
+    to = to;
+    number = n;
+    brings = h.brings;
+    says = refl;
+    fails = subst (λ (p : Packet). FailsToSend p ys) is k;
+    cut = refl;
+  });
+  cut = ap (λ (l : List Step). l ++ ys) h.cut ∙ append_assoc h.before h.last ys;
+}
 
 pub came_last : (f : Fetch) (old mid new : Option History) (s : Reception) (to : Addr) (n : ℕ) (request : Packet) (what : outcomes.Fetched) → request ≡ acknowledge f.me to n
     → Moves old mid (HasLast f s to n) → Moves mid new (Finishes request s what) → Moves old new (CameOf f what)

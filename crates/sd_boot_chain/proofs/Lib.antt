@@ -5,14 +5,15 @@ pub mod Booting
 pub mod Turned
 pub mod Fetching
 pub mod Pausing
-pub mod Gaining
 pub mod Stepping
+mod Needing
+mod Replying
+mod Saying
 pub mod Fetched
 pub mod FetchSends
 pub mod TrustedFile
 pub mod ClientSends
 pub mod Trusting
 pub mod Rooting
-pub mod Quiet
 pub mod PartSends
 pub mod KeptOff

@@ -11,7 +11,7 @@ use Rattle.sd_config.specs.declared.stage.Stage.{Stage}
 use Rattle.sd_config.specs.declared.stage.Stage.TheVariants as stage
 use Rattle.sd_link.specs.Steps.{Step}
 use Rattle.sd_link.specs.Parts.{sends_in, got_in}
-use Rattle.sd_link.specs.Tries.{beyond, EndsMatched, Flooded, TimedOut, IsTries}
+use Rattle.sd_link.specs.Tries.{beyond, EndsMatched, Flooded, TimedOut, Failed, IsTries}
 use Rattle.sd_link.proofs.Histories.{sends-append}
 use Rattle.sd_config.proofs.Lists.{all_append, all_always}
 use Rattle.sd_link.proofs.FromServer.{AnyPacket}
@@ -20,11 +20,11 @@ use Rattle.sd_rpc_retry.specs.Calling.{Verdict, request, hearing_of}
 use Rattle.sd_config.specs.declared.command.Command.{Command}
 use Rattle.sd_config.specs.declared.told.Told.{Told}
 use Rattle.sd_claims.specs.Rarp.{Learned, rarp_request, rarp_hearing, learned_from}
-use Rattle.sd_claims.specs.Fetching.{Fetch, Brings, FetchTimedOut, FetchFlooded, FetchRefused, FetchTooLarge, request_of, fetch_hearing}
-use Rattle.sd_claims.specs.Booting.{Counts, Call, OfFetch, OfCall, ComesTo, to_whoami, to_getfile, to_getport, CallTold, CallTimedOut, CallFlooded, boot_fetch, caller_after}
-use Rattle.sd_claims.specs.Causes.{Cause, addr_ok, addr_timeout, addr_flood, boot_unbuilt, boot_timeout_rarp, boot_timeout_tftp, boot_timeout_call, boot_flood_rarp, boot_flood_tftp, boot_flood_call, boot_denied, boot_refused, boot_no_port, boot_too_large, wait_ok, wait_flood}
+use Rattle.sd_claims.specs.Fetching.{Fetch, Brings, FetchTimedOut, FetchFlooded, FetchFailed, FetchRefused, FetchTooLarge, request_of, fetch_hearing}
+use Rattle.sd_claims.specs.Booting.{Counts, Call, OfFetch, OfCall, ComesTo, to_whoami, to_getfile, to_getport, CallTold, ServerTold, CallTimedOut, CallFlooded, CallFailed, boot_fetch, caller_after}
+use Rattle.sd_claims.specs.Causes.{Cause, addr_ok, addr_timeout, addr_flood, boot_unbuilt, boot_timeout_rarp, boot_timeout_tftp, boot_timeout_call, boot_flood_rarp, boot_flood_tftp, boot_flood_call, boot_denied, boot_refused, boot_no_port, boot_too_large, wait_ok, wait_flood, addr_linkfault, boot_linkfault, wait_linkfault, BootFailed, failed_at_rarp, failed_at_tftp, failed_at_call}
 use Rattle.sd_boot_chain.proofs.Fetched.{got_cut, got_split}
-use Rattle.sd_boot_chain.proofs.FetchSends.{Sends, tries_send, fetched_sends, stops_send}
+use Rattle.sd_boot_chain.proofs.FetchSends.{Sends, tries_send, failed_sends, fetched_sends, stops_send, failed_fetch_sends}
 
 -- the address was told by what was got, of which G holds
 pub record IsToldBy (c : Config) (G : Packet → Type 0) (learned : Learned) : Type 0 where
@@ -69,6 +69,9 @@ module _ (c : Config) (S G : Packet → Type 0) (A : Addr → Type 0) (k : Sends
       let f = boot_fetch c boots learned in
       stops_send f S G A (k.fetches boots learned told) (λ s r last. (t : Turn) × Brings s f r t last × (t.says ≡ step.Over size)) (λ s r last w. (w.1.asks.before ++ w.1.asks.last ∷ [], w.1.asks.is)) part h all
 
+  failed_so : SendsSo FetchFailed
+  failed_so still boots learned part told h all = failed_fetch_sends (boot_fetch c boots learned) S G A (k.fetches boots learned told) still part h all
+
   -- ---- calls
 
   -- S holds of each call of this caller, whatever its number
@@ -85,11 +88,18 @@ module _ (c : Config) (S G : Packet → Type 0) (A : Addr → Type 0) (k : Sends
   told_so : (verdict : Verdict) → CallsSo (CallTold verdict)
   told_so verdict still caller call part calls h = call_sends caller call (h.asks.before ++ h.asks.last ∷ []) part calls h.asks.is
 
+  server_told_so : (verdict : Verdict) → CallsSo (ServerTold c verdict)
+  server_told_so verdict still caller call part calls h = told_so verdict still caller call part calls h.told
+
   call_timed_out_so : CallsSo CallTimedOut
   call_timed_out_so still caller call part calls h = call_sends caller call h.rests part calls h.is
 
   call_flooded_so : CallsSo CallFlooded
   call_flooded_so still caller call part calls h = call_sends caller call (h.asks.before ++ h.asks.last ∷ []) part calls h.asks.is
+
+  call_failed_so : CallsSo CallFailed
+  call_failed_so still caller call part calls h =
+      failed_sends S AnyPacket (request caller call.dst call.ask) (hearing_of caller call.dst call.ask) (calls caller.next_xid call) (λ p g. tt) still caller.tries caller.wait part h (all_always AnyPacket (got_in part) (λ p. tt))
 
   both_send : (part first more : List Step) → part ≡ first ++ more → AllByRecursion S (sends_in first) → AllByRecursion S (sends_in more) → AllByRecursion S (sends_in part)
   both_send part first more cut a b =
@@ -108,7 +118,7 @@ module _ (c : Config) (S G : Packet → Type 0) (A : Addr → Type 0) (k : Sends
 
     -- all that is sent before a call
     comes_to : (program : List ℕ) (step : Stage) (caller : Caller) (call : Call) (part : List Step) → ComesTo settled c n program step caller call part → AllByRecursion G (got_in part) → AllByRecursion S (sends_in part) × Calls caller
-    comes_to program _ _ _ _ (to_whoami learned address fetch told fetched) all =
+    comes_to program _ _ _ _ (to_whoami learned address fetch told named fetched) all =
         let g = got_split G address fetch all in
         let by : IsToldBy c G learned = record { address = address; told = told.ends; got = g.0 } in (
           both_send (address ++ fetch) address fetch refl (rarp_sends (told.asks.before ++ told.asks.last ∷ []) address told.asks.is)
@@ -118,11 +128,11 @@ module _ (c : Config) (S G : Packet → Type 0) (A : Addr → Type 0) (k : Sends
     comes_to program _ _ _ _ (to_getfile caller call before last from client domain router to told) all =
         let g = got_split G before last all in
         let b = comes_to program stage.Whoami caller call before to g.0 in
-        (both_send (before ++ last) before last refl b.0 (told_so _ (beyond settled before) caller call last b.1 told), b.1)
+        (both_send (before ++ last) before last refl b.0 (told_so _ (beyond settled before) caller call last b.1 told.told), b.1)
     comes_to program _ _ _ _ (to_getport caller call before last from server ip path to told) all =
         let g = got_split G before last all in
         let b = comes_to program stage.Getfile caller call before to g.0 in
-        (both_send (before ++ last) before last refl b.0 (told_so _ (beyond settled before) caller call last b.1 told), b.1)
+        (both_send (before ++ last) before last refl b.0 (told_so _ (beyond settled before) caller call last b.1 told.told), b.1)
 
     of_call : (program : List ℕ) (step : Stage) (came : (List Step → Type 0) → Caller → Call → List Step → Type 0) (part : List Step) → CallsSo came → OfCall settled c n program step came part → AllByRecursion G (got_in part)
         → AllByRecursion S (sends_in part)
@@ -140,21 +150,32 @@ module _ (c : Config) (S G : Packet → Type 0) (A : Addr → Type 0) (k : Sends
     flooded_sends : (part : List Step) → Flooded settled (rarp_request c.client.mac) (rarp_hearing c.client.mac) c.tries c.wait part → AllByRecursion S (sends_in part)
     flooded_sends part h = rarp_sends (h.asks.before ++ h.asks.last ∷ []) part h.asks.is
 
+    broken_sends : (part : List Step) → Failed settled (rarp_request c.client.mac) (rarp_hearing c.client.mac) c.tries c.wait part → AllByRecursion S (sends_in part)
+    broken_sends part h = failed_sends S AnyPacket (rarp_request c.client.mac) (rarp_hearing c.client.mac) (k.frames _) (λ p g. tt) settled c.tries c.wait part h (all_always AnyPacket (got_in part) (λ p. tt))
+
+    boot_failed_sends : (step : Stage) (part : List Step) → BootFailed settled c n step part → AllByRecursion G (got_in part) → AllByRecursion S (sends_in part)
+    boot_failed_sends _ part (failed_at_rarp _ h) all = broken_sends part h
+    boot_failed_sends _ part (failed_at_tftp _ h) all = of_fetch FetchFailed part failed_so h all
+    boot_failed_sends _ part (failed_at_call program step _ h) all = of_call program step CallFailed part call_failed_so h all
+
     -- S holds of all that the client sends in a command, where G holds of what it gets.
     pub part_sends : (command : Command) (answer : Told) (part : List Step) → Cause settled c n command answer part → AllByRecursion G (got_in part) → AllByRecursion S (sends_in part)
     part_sends _ _ part (addr_ok learned _ h) all = rarp_sends (h.asks.before ++ h.asks.last ∷ []) part h.asks.is
     part_sends _ _ part (addr_timeout _ h) all = timed_out_sends part h
     part_sends _ _ part (addr_flood _ h) all = flooded_sends part h
-    part_sends _ _ part (boot_unbuilt program port _ some h) all = of_call program stage.Getport (CallTold _) part (told_so _) h all
+    part_sends _ _ part (boot_unbuilt program port _ some h) all = of_call program stage.Getport (ServerTold c _) part (server_told_so _) h all
     part_sends _ _ part (boot_timeout_rarp _ h) all = timed_out_sends part h
     part_sends _ _ part (boot_timeout_tftp _ h) all = of_fetch FetchTimedOut part timed_out_so h all
     part_sends _ _ part (boot_timeout_call program step _ h) all = of_call program step CallTimedOut part call_timed_out_so h all
     part_sends _ _ part (boot_flood_rarp _ h) all = flooded_sends part h
     part_sends _ _ part (boot_flood_tftp _ h) all = of_fetch FetchFlooded part flooded_so h all
     part_sends _ _ part (boot_flood_call program step _ h) all = of_call program step CallFlooded part call_flooded_so h all
-    part_sends _ _ part (boot_denied program step code _ h) all = of_call program step (CallTold _) part (told_so _) h all
+    part_sends _ _ part (boot_denied program step code _ h) all = of_call program step (ServerTold c _) part (server_told_so _) h all
     part_sends _ _ part (boot_refused code _ h) all = of_fetch (FetchRefused code) part (refused_so code) h all
-    part_sends _ _ part (boot_no_port program _ h) all = of_call program stage.Getport (CallTold _) part (told_so _) h all
+    part_sends _ _ part (boot_no_port program _ h) all = of_call program stage.Getport (ServerTold c _) part (server_told_so _) h all
     part_sends _ _ part (boot_too_large size _ h) all = of_fetch (FetchTooLarge size) part (large_so size) h all
     part_sends _ _ part (wait_ok ticks _ h) all = silent_sends part h.silent
     part_sends _ _ part (wait_flood ticks _ h) all = silent_sends part h.silent
+    part_sends _ _ part (addr_linkfault _ h) all = broken_sends part h
+    part_sends _ _ part (boot_linkfault step _ h) all = boot_failed_sends step part h all
+    part_sends _ _ part (wait_linkfault ticks _ h) all = silent_sends part h.silent

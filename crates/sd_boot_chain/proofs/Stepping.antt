@@ -18,14 +18,14 @@ use Rattle.sd_link.proofs.Histories.{record-append, record-goes, run-append, wor
 use Rattle.sd_config.specs.declared.command.Command.{Command}
 use Rattle.sd_config.specs.declared.told.Told.{Told}
 use Rattle.sd_script.specs.Answers.{answer_line}
-use Rattle.sd_claims.specs.Causes.{IsCaused, counts_after}
+use Rattle.sd_claims.specs.Causes.{IsCaused, CountsOn}
 use Rattle.sd_claims.specs.Booting.{Counts, first_counts}
 use Rattle.sd_claims.specs.Ending.{Ends, EndsAfter, AllEnd}
 use Rattle.sd_claims.specs.Transcript.{Done, transcript, AllCaused}
 use Rattle.sd_claims.specs.Session.{IsSession, IsCutSession, parts_of}
-use Rattle.sd_boot_chain.specs.Writing.{GainsFront}
+use Rattle.sd_streams.specs.Writing.{GainsFront}
 use Rattle.sd_boot_chain.specs.Step.{ClientView, HasCounted, IsStep, IsAnswered, IsDone}
-use Rattle.sd_boot_chain.proofs.Gaining.{gains_then, gains_nothing}
+use Rattle.sd_streams.proofs.Gaining.{gains_then, gains_nothing}
 
 -- what was drained is the text of the new entries
 pub new_lines : (a b : History) (xs : List Step) (old new added : List ℕ) → GoesOn a b xs → new ≡ old ++ added → old ≡ record_text (whole_record a) → new ≡ record_text (whole_record b)
@@ -72,25 +72,27 @@ moves_from (Some old) (Some new) P Q q m = (m.0, m.1, (q, m.2))
 -- what the client counts after these commands
 abbrev pub counts_done : Counts → List Done → Counts
 counts_done n [] = n
-counts_done n (d ∷ ds) = counts_done (counts_after n d.answer) ds
+counts_done n (d ∷ ds) = counts_done d.counts ds
 
-counts-push : (n : Counts) (done : List Done) (d : Done) → counts_done n (done ++ d ∷ []) ≡ counts_after (counts_done n done) d.answer
+counts-push : (n : Counts) (done : List Done) (d : Done) → counts_done n (done ++ d ∷ []) ≡ d.counts
 counts-push n [] d = refl
-counts-push n (e ∷ es) d = counts-push (counts_after n e.answer) es d
+counts-push n (e ∷ es) d = counts-push e.counts es d
 
 -- beyond one part and then another
 beyond-both : (settled : List Step → Type 0) (xs ys : List Step) → beyond settled (xs ++ ys) ≡ beyond (beyond settled xs) ys
 beyond-both settled xs ys = λ i steps. settled (append_assoc xs ys steps i)
 
 caused-push : (settled : List Step → Type 0) (c : Config) (n : Counts) (commands : List Command) (command : Command) (done : List Done) (d : Done) → AllCaused settled c n commands done
-    → IsCaused (beyond settled (parts_of done)) c (counts_done n done) command d.answer d.part → AllCaused settled c n (commands ++ command ∷ []) (done ++ d ∷ [])
-caused-push settled c n [] command [] d all one = (one, tt)
-caused-push settled c n [] command (e ∷ es) d all one = absurd all
-caused-push settled c n (k ∷ ks) command [] d all one = absurd all
-caused-push settled c n (k ∷ ks) command (e ∷ es) d all one = (
+    → IsCaused (beyond settled (parts_of done)) c (counts_done n done) command d.answer d.part → CountsOn (beyond settled (parts_of done)) c (counts_done n done) d.answer d.part d.counts → AllCaused settled c n (commands ++ command ∷ []) (done ++ d ∷ [])
+caused-push settled c n [] command [] d all one on = (one, on, tt)
+caused-push settled c n [] command (e ∷ es) d all one on = absurd all
+caused-push settled c n (k ∷ ks) command [] d all one on = absurd all
+caused-push settled c n (k ∷ ks) command (e ∷ es) d all one on = (
   all.0,
-  caused-push (beyond settled e.part) c (counts_after n e.answer) ks command es d all.1
-      (subst (λ (still : List Step → Type 0). IsCaused still c (counts_done (counts_after n e.answer) es) command d.answer d.part) (beyond-both settled e.part (parts_of es)) one),
+  all.1,
+  caused-push (beyond settled e.part) c e.counts ks command es d all.2
+      (subst (λ (still : List Step → Type 0). IsCaused still c (counts_done e.counts es) command d.answer d.part) (beyond-both settled e.part (parts_of es)) one)
+      (subst (λ (still : List Step → Type 0). CountsOn still c (counts_done e.counts es) d.answer d.part d.counts) (beyond-both settled e.part (parts_of es)) on),
 )
 
 -- one command's text
@@ -127,10 +129,10 @@ ends-push c fates w entries (e ∷ es) d all one =
           (subst (λ (l : List Entry). Ends c fates (run c w (e.part ++ parts_of es)) l d.answer d.part) there one)),
     )
 
-session_ends : (a b : History) (xs ys : List Step) → GoesOn a b xs → (done : List Done) (answer : Told) → xs ≡ parts_of done → AllEnd a.config (fates_of a.events) (world_of a) (whole_record a) done → EndsAfter b answer ys
-    → AllEnd a.config (fates_of a.events) (world_of a) (whole_record a) (done ++ record { part = ys; answer = answer } ∷ [])
-session_ends a b xs ys goes done answer cut all one =
-    ends-push a.config (fates_of a.events) (world_of a) (whole_record a) done (record { part = ys; answer = answer }) all
+session_ends : (a b : History) (xs ys : List Step) → GoesOn a b xs → (done : List Done) (answer : Told) (counts : Counts) → xs ≡ parts_of done → AllEnd a.config (fates_of a.events) (world_of a) (whole_record a) done → EndsAfter b answer ys
+    → AllEnd a.config (fates_of a.events) (world_of a) (whole_record a) (done ++ record { part = ys; answer = answer; counts = counts } ∷ [])
+session_ends a b xs ys goes done answer counts cut all one =
+    ends-push a.config (fates_of a.events) (world_of a) (whole_record a) done (record { part = ys; answer = answer; counts = counts }) all
     (subst (λ (l : List Step). Ends a.config (fates_of a.events) (run a.config (world_of a) l) (whole_record a ++ record_of a.config (world_of a) l) answer ys) cut
     (subst (λ (l : List Entry). Ends a.config (fates_of a.events) (run a.config (world_of a) xs) l answer ys) (record-goes a b xs goes)
     (subst (λ (w : World). Ends a.config (fates_of a.events) w (whole_record b) answer ys) (world-goes a b xs goes)
@@ -152,11 +154,11 @@ session_first told client h fresh = record { session = session_none told h; coun
 -- a command more, with its cause and its text
 module _ (client : ClientView) (commands : List Command) (command : Command) (before mid : Option (List ℕ)) (drained text : List ℕ) (next : ClientView) (a b : History) (xs ys : List Step)
     (goes : GoesOn a b xs) (is_for : IsFor a.config client.config) (s : SessionAt commands before mid client a xs) (was : drained ≡ record_text (whole_record b)) (t : IsStep client command drained text next b ys) where
-  last : Done
-  last = record { part = ys; answer = t.answer }
-
-  answered : IsAnswered (counts_done first_counts s.session.done) command t.answer b ys × HasCounted next (counts_after (counts_done first_counts s.session.done) t.answer)
+  answered : (counts : Counts) × IsAnswered (counts_done first_counts s.session.done) command t.answer b ys × CountsOn (IsSettledBy b) b.config (counts_done first_counts s.session.done) t.answer ys counts × HasCounted next counts
   answered = t.answered (subst (λ (c : Config). IsFor c client.config) (sym goes.config) is_for) (counts_done first_counts s.session.done) s.counted
+
+  last : Done
+  last = record { part = ys; answer = t.answer; counts = answered.0 }
 
   so_far : List ℕ
   so_far = transcript a.config (world_of a) s.session.done
@@ -177,11 +179,14 @@ module _ (client : ClientView) (commands : List Command) (command : Command) (be
       caused-push (IsSettledBy a) a.config first_counts commands command s.session.done last s.session.caused
       (subst (λ (l : List Step). IsCaused (beyond (IsSettledBy a) l) a.config (counts_done first_counts s.session.done) command t.answer ys) s.session.cut
       (subst (λ (still : List Step → Type 0). IsCaused still a.config (counts_done first_counts s.session.done) command t.answer ys) (settled-beyond a b xs goes)
-      (subst (λ (c : Config). IsCaused (IsSettledBy b) c (counts_done first_counts s.session.done) command t.answer ys) goes.config answered.0.caused)))
+      (subst (λ (c : Config). IsCaused (IsSettledBy b) c (counts_done first_counts s.session.done) command t.answer ys) goes.config answered.1.caused)))
+      (subst (λ (l : List Step). CountsOn (beyond (IsSettledBy a) l) a.config (counts_done first_counts s.session.done) t.answer ys answered.0) s.session.cut
+      (subst (λ (still : List Step → Type 0). CountsOn still a.config (counts_done first_counts s.session.done) t.answer ys answered.0) (settled-beyond a b xs goes)
+      (subst (λ (c : Config). CountsOn (IsSettledBy b) c (counts_done first_counts s.session.done) t.answer ys answered.0) goes.config answered.2)))
 
   ended : AllEnd a.config (fates_of a.events) (world_of a) (whole_record a) (s.session.done ++ last ∷ [])
   unfolding last
-  ended = session_ends a b xs ys goes s.session.done t.answer s.session.cut s.session.ended answered.0.ended
+  ended = session_ends a b xs ys goes s.session.done t.answer answered.0 s.session.cut s.session.ended answered.1.ended
 
   cut : xs ++ ys ≡ parts_of (s.session.done ++ last ∷ [])
   unfolding last
@@ -205,7 +210,7 @@ module _ (client : ClientView) (commands : List Command) (command : Command) (be
       rests = rested;
       text = subst (λ (l : List ℕ). Gains before after l) (sym whole) (gains_then before mid after so_far line s.session.text (subst (λ (l : List ℕ). Gains mid after l) shown gained));
     };
-    counted = subst (HasCounted next) (sym (counts-push first_counts s.session.done last)) answered.1;
+    counted = subst (HasCounted next) (sym (counts-push first_counts s.session.done last)) answered.3;
   }
 
   -- a command whose text was written in part

@@ -51,14 +51,14 @@ asks_its_file f clean = record {
   heard = λ from to body ip port g. tt;
 }
 
--- What is fetched after steps of this configuration, in which no other file was asked for from there and nothing was sent from
--- there to the RPC ports, is the file of that name.
-pub fetched_is_configured : {settled : List Step → Type 0} (c : Config) → IsConfig c → (before part : List Step) (f : Fetch) (bytes : List ℕ) → HasNoZero f.name → AsksOnlyFor f.me f.name (run c (start c) before) → KeepsOffRpc f.me (run c (start c) before)
-    → AllAllowed c (run c (start c) before) part → Fetched settled f bytes part → boot_file c f.name ≡ Some bytes
-fetched_is_configured c is before part f bytes clean asks off allowed came =
+-- What is fetched from the server after lawful steps of this configuration, in which no other file was asked for from there and nothing
+-- of a message's size was sent from there to the RPC ports, is the file of that name.
+pub fetched_is_configured : {settled : List Step → Type 0} (c : Config) → IsConfig c → (before part : List Step) (f : Fetch) (bytes : List ℕ) → HasNoZero f.name → f.server ≡ c.server.ip → AllAllowed c (start c) before
+    → AsksOnlyFor f.me f.name (run c (start c) before) → KeepsOffRpc f.me (run c (start c) before) → AllAllowed c (run c (start c) before) part → Fetched settled f bytes part → boot_file c f.name ≡ Some bytes
+fetched_is_configured c is before part f bytes clean server lawful asks off allowed came =
     let w = run c (start c) before in
-    let apart : f.me.ip ≢ c.server.ip = λ e. is.ips (sym e ∙ fetched_there c w f bytes part allowed came) in
+    let mine : f.me.ip ≡ c.client.ip = fetched_there c w f bytes part allowed came in
     let sends = fetched_sends f (AsksRight f.me f.name) AnyPacket AnyAddr (asks_its_file f clean) bytes part came (all_always AnyPacket (got_in part) (λ p. tt)) in
-    let kept = blocks_kept c is f.me f.name before asks off in
-    let got = blocks_got c is f.me f.name w part kept (asks_on c is f.me f.name apart before part asks sends) (kept_off c is f apart before part bytes off allowed came) allowed in
-    fetched_file c f bytes part came got
+    let kept = blocks_kept c is f.me f.name before lawful asks off in
+    let got = blocks_got c is f.me f.name w part kept (asks_on c is f.me f.name mine before part lawful allowed asks sends) (kept_off c is f mine before part bytes lawful off allowed came) allowed in
+    fetched_file c f bytes part server came got

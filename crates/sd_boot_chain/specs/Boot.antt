@@ -10,7 +10,8 @@ use Rattle.sd_config.specs.declared.told.Told.{Told}
 use Rattle.sd_claims.specs.Rarp.{Learned}
 use Rattle.sd_claims.specs.Fetching.{Fetch}
 use Rattle.sd_claims.specs.Booting.{Counts, LearnsAddress}
-use Rattle.sd_claims.specs.Causes.{Cause, counts_after}
+use Rattle.sd_claims.specs.Causes.{Cause, CountsOn}
+use Rattle.sd_boot_chain.specs.Replies.{AllComeRight}
 use Rattle.sd_boot_chain.specs.Step.{ClientView, HasCounted}
 
 -- the next fetch of the boot program
@@ -27,8 +28,10 @@ task_of client learned = record {
 abbrev pub caller_of : ClientView → ℕ → Caller
 caller_of client ip = record { ip = ip; port = 1021; machine = []; next_xid = client.next_xid; tries = client.config.tries; wait = client.config.wait }
 
--- Whatever part before told the address, the boot's answer has its cause in both parts together, and the client counts on.
+-- Whatever part before told the address, the boot's answer has its cause in both parts together, where what comes in them is right,
+-- and the client counts on.
 abbrev pub IsBootAnswer : ClientView → Learned → Told → ClientView → History → List Step → Type 0
 IsBootAnswer client learned answer next old part =
     (first : History) (address : List Step) → GoesOn first old address → IsFor first.config client.config → (n : Counts) → HasCounted client n → LearnsAddress (IsSettledBy first) first.config learned address
-    → Cause (IsSettledBy first) first.config n Boot answer (address ++ part) × HasCounted next (counts_after n answer)
+    → AllComeRight first.config (address ++ part)
+    → (counts : Counts) × Cause (IsSettledBy first) first.config n Boot answer (address ++ part) × CountsOn (IsSettledBy first) first.config n answer (address ++ part) counts × HasCounted next counts

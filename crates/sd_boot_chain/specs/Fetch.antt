@@ -12,7 +12,8 @@ use Rattle.sd_config.specs.Program.{boot_file}
 use Rattle.sd_link.specs.Requests.{AsksOnlyFor, KeepsOffRpc}
 use Rattle.sd_link.specs.Steps.{Step, Send, History, world_of}
 use Rattle.sd_link.specs.Link.{IsSettledBy}
-use Rattle.sd_claims.specs.Fetching.{Fetch, Fetched, FetchTimedOut, FetchFlooded, FetchRefused, FetchTooLarge, progress, courtesy}
+use Rattle.sd_link.specs.Tries.{FailsToSend}
+use Rattle.sd_claims.specs.Fetching.{Fetch, Fetched, FetchTimedOut, FetchFlooded, FetchFailed, FetchRefused, FetchTooLarge, progress, courtesy}
 use Rattle.sd_rpc_retry.specs.declared.asking.Look.{Look}
 use Rattle.sd_rpc_retry.specs.declared.asking.Look.TheVariants as look
 use Rattle.sd_boot_chain.specs.declared.fetch.Task as code
@@ -49,14 +50,14 @@ CameOf f came.Timeout old part = FetchTimedOut (IsSettledBy old) f part
 CameOf f came.Flood old part = FetchFlooded (IsSettledBy old) f part
 CameOf f (came.Refused code) old part = FetchRefused code (IsSettledBy old) f part
 CameOf f (came.TooLarge got) old part = FetchTooLarge got (IsSettledBy old) f part
-CameOf f came.Fault old part = Unit {0}
+CameOf f came.Fault old part = FetchFailed (IsSettledBy old) f part
 
 abbrev pub IsFetchFault : outcomes.Fetched → Type 0
 IsFetchFault came.Fault = Unit {0}
 IsFetchFault what = ⊥
 
--- The world is one of the configuration, the server is asked, no other file was ever asked for from this address and
--- port, and nothing was ever sent from there to the RPC programs.
+-- The world is one of the configuration, the server is asked, no other file was ever asked for from this address and port, and
+-- nothing of a message's size was ever sent from there to the RPC programs.
 pub record MayTrust (f : Fetch) (old : History) : Type 0 where
   pub rules : IsConfig old.config
   pub server : f.server ≡ old.config.server.ip
@@ -68,8 +69,14 @@ abbrev pub GivesFile : Fetch → outcomes.Fetched → History → List Step → 
 GivesFile f (came.File bytes) old part = MayTrust f old → boot_file old.config f.name ≡ Some bytes
 GivesFile f what old part = Unit {0}
 
--- the last block is acknowledged
+-- it came, or the link failed at the last ACK
+abbrev pub IsFinished : outcomes.Fetched → Type 0
+IsFinished (came.File bytes) = Unit {0}
+IsFinished came.Fault = Unit {0}
+IsFinished what = ⊥
+
+-- the last block is acknowledged, or the ACK couldn't be sent
 abbrev pub Finishes : Packet → Reception → outcomes.Fetched → History → List Step → Type 0
 Finishes request taken (came.File bytes) old part = (part ≡ Send request ∷ []) × (bytes ≡ concat taken.blocks)
-Finishes request taken came.Fault old part = Unit {0}
+Finishes request taken came.Fault old part = FailsToSend request part
 Finishes request taken what old part = ⊥

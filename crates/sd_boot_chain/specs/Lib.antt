@@ -1,8 +1,10 @@
 pub mod Durations
+pub mod Needs
+pub mod Failing
+pub mod Replies
 pub mod Address
 pub mod Fetch
 pub mod Pause
 pub mod Step
 pub mod Root
 pub mod Boot
-pub mod Writing

@@ -1,6 +1,7 @@
 -- What came of the calls that follow the boot program, in the code's words and in the standard's.
 use Rattle.std.specs.Prelude.{◌≡◌, ℕ, ◌+◌, ◌==◌, if◌then◌else◌, List, ◌++◌, Result, Ok, Err}
 use Rattle.sd_outside.specs.declared.errors.NoMemory.{NoMemory}
+use Rattle.sd_config.specs.declared.config.Config.{Config}
 use Rattle.sd_config.specs.declared.stage.Stage.{Stage}
 use Rattle.sd_config.specs.declared.stage.Stage.TheVariants as stage
 use Rattle.sd_link.specs.Steps.{Step, History}
@@ -11,8 +12,9 @@ use Rattle.sd_rpc_retry.specs.declared.calling.CallError.TheVariants as error
 use Rattle.sd_rpc_retry.specs.declared.calling.Caller.{Caller}
 use Rattle.sd_config.specs.declared.told.Told.{Told}
 use Rattle.sd_config.specs.declared.told.Told.TheVariants.{BootUnbuilt, BootTimeout, BootFlood, BootDenied, BootNoPort, BootLinkFault}
-use Rattle.sd_claims.specs.Booting.{Counts, Call, CallTold, CallTimedOut, CallFlooded, ComesTo, OfCall, whoami_call}
+use Rattle.sd_claims.specs.Booting.{Counts, Call, CallTold, ServerTold, CallTimedOut, CallFlooded, CallFailed, ComesTo, OfCall, whoami_call}
 use Rattle.sd_claims.specs.Causes.{calls_at}
+use Rattle.sd_boot_chain.specs.Replies.{AllComeRight}
 use Rattle.sd_boot_chain.specs.declared.root.Unanswered.{Unanswered}
 
 -- ---- one call
@@ -25,12 +27,13 @@ Names from client settled caller call part = (domain : List ℕ) × (router : �
 abbrev pub Places : ℕ → (List Step → Type 0) → Caller → Call → List Step → Type 0
 Places ip settled caller call part = (from : ℕ) × (server : List ℕ) × (path : List ℕ) × CallTold (Ok (answers.Getfile from server ip path)) settled caller call part
 
--- why a call has no answer; nothing is said of a fault and of running out of memory
+-- why a call has no answer; nothing is said of running out of memory
 abbrev pub HasNoAnswer : CallError → (List Step → Type 0) → Caller → Call → List Step → Type 0
 HasNoAnswer error.Timeout settled caller call part = CallTimedOut settled caller call part
 HasNoAnswer error.Flood settled caller call part = CallFlooded settled caller call part
 HasNoAnswer (error.Denied code) settled caller call part = CallTold (Err code) settled caller call part
-HasNoAnswer why settled caller call part = Unit {0}
+HasNoAnswer error.LinkFault settled caller call part = CallFailed settled caller call part
+HasNoAnswer error.NoMemory settled caller call part = Unit {0}
 
 -- what came of a call: an answer that shows this, or none
 abbrev pub CallCame : {X : Type 0} → (X → (List Step → Type 0) → Caller → Call → List Step → Type 0) → Caller → Call → Result X Unanswered → History → List Step → Type 0
@@ -39,15 +42,23 @@ CallCame shows caller call (Err why) old part = HasNoAnswer why.error (IsSettled
 
 -- ---- all calls
 
+-- why a call of a boot has none: a refusal came from the server
+abbrev pub Stopped : Config → CallError → (List Step → Type 0) → Caller → Call → List Step → Type 0
+Stopped c error.Timeout settled caller call part = CallTimedOut settled caller call part
+Stopped c error.Flood settled caller call part = CallFlooded settled caller call part
+Stopped c (error.Denied code) settled caller call part = ServerTold c (Err code) settled caller call part
+Stopped c error.LinkFault settled caller call part = CallFailed settled caller call part
+Stopped c error.NoMemory settled caller call part = Unit {0}
+
 -- the port that GETPORT told, or the call that has no answer
 abbrev pub CallsGave : History → Counts → List ℕ → Result ℕ Unanswered → List Step → Type 0
-CallsGave first n program (Ok port) whole = OfCall (IsSettledBy first) first.config n program stage.Getport (CallTold (Ok (answers.Port port))) whole
-CallsGave first n program (Err why) whole = OfCall (IsSettledBy first) first.config n program why.step (HasNoAnswer why.error) whole
+CallsGave first n program (Ok port) whole = OfCall (IsSettledBy first) first.config n program stage.Getport (ServerTold first.config (Ok (answers.Port port))) whole
+CallsGave first n program (Err why) whole = OfCall (IsSettledBy first) first.config n program why.step (Stopped first.config why.error) whole
 
--- Whatever boot came to this call in the steps before, this came of its calls from there on.
+-- Whatever boot came to this call in the steps before, this came of its calls from there on, where what comes in them is right.
 abbrev pub CallsFrom : Stage → Caller → Call → Result ℕ Unanswered → History → List Step → Type 0
 CallsFrom step caller call found old part =
-    (first : History) (n : Counts) (program : List ℕ) (before : List Step) → GoesOn first old before → ComesTo (IsSettledBy first) first.config n program step caller call before → CallsGave first n program found (before ++ part)
+    (first : History) (n : Counts) (program : List ℕ) (before : List Step) → GoesOn first old before → ComesTo (IsSettledBy first) first.config n program step caller call before → AllComeRight first.config part → CallsGave first n program found (before ++ part)
 
 -- from WHOAMI on
 abbrev pub CallsCame : Caller → Result ℕ Unanswered → History → List Step → Type 0

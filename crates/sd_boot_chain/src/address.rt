@@ -1,14 +1,18 @@
 //! How the client asks for its own address (RFC 903).
-ghost use Rattle.std.specs.Prelude.{◌≡◌, ◌≤◌, IfOk};
+ghost use Rattle.std.specs.Prelude.{◌≡◌, ◌≤◌, IfOk, ◌*◌, IfSome};
 ghost use Rattle.std.specs.Option.{option_map};
 ghost use Rattle.sd_outside.specs.Causes.{Rose};
 ghost use Rattle.sd_config.specs.Config.{IsClientConfig};
+ghost use Rattle.sd_link.specs.Steps.{IsLawfulSoFar};
 ghost use Rattle.sd_link.specs.Link.{Moves};
 ghost use Rattle.sd_claims.specs.Rarp.{learned_from, rarp_request, rarp_hearing};
-ghost use Rattle.sd_rpc_retry.specs.Lasting.{Lasts, most_asking_ticks};
+ghost use Rattle.sd_rpc_retry.specs.Lasting.{Lasts, most_asking_ticks, Fails};
+ghost use Rattle.sd_rpc_retry.specs.Sending.{asked_fails};
+ghost use Rattle.sd_boot_chain.specs.Failing.{told_fails};
 ghost use Rattle.sd_rpc_retry.specs.Asking.{IsAsked, IsAskedFault};
-ghost use Rattle.sd_boot_chain.specs.Step.{IsFault};
 ghost use Rattle.sd_boot_chain.specs.Address.{shows_learned, IsAddrAnswer};
+ghost use Rattle.sd_claims.specs.AnyLink.{IsMet, AddrNeeds, FaultIsCounted};
+ghost use Rattle.sd_boot_chain.specs.Needs.{AskedNeeds};
 
 use sd_config::{ClientConfig, Stage, Told};
 use sd_link::Link;
@@ -104,8 +108,13 @@ pub(crate) fn learn<L: Link>(
     requires { IsClientConfig config.now }
     ensures told { IfOk result (λ asked. Moves (L.told link.old) (L.told link.new)
         (IsAsked (rarp_request config.now.mac) (rarp_hearing config.now.mac) shows_learned config.now.tries config.now.wait asked)) }
+    ensures lawful { IfOk result (λ asked. IfSome (L.told link.old) IsLawfulSoFar) }
     ensures lasts { Lasts most_asking_ticks (L.told link.old) (L.told link.new) }
     ensures fault { IfOk result (λ asked. IsAskedFault asked → Rose (L.faults link.old) (L.faults link.new)) }
+    ensures needs { IfOk result (AskedNeeds (config.now.tries * config.now.wait) (IsMet (L.handed link.old) (L.handed link.new) (L.clock link.old) (L.clock link.new))) }
+    ensures counts { L.handed link.old ≤ L.handed link.new }
+    ensures later { L.clock link.old ≤ L.clock link.new }
+    ensures fails { Fails (asked_fails result) (L.told link.old) (L.told link.new) }
     ensures faults { L.faults link.old ≤ L.faults link.new }
     ensures drained { L.drained link.new ≡ L.drained link.old }
 {
@@ -123,11 +132,15 @@ pub(crate) fn own_address<L: Link>(
 ) -> Result<Told, NoMemory>
     requires { IsClientConfig config.now }
     ensures lasts { Lasts most_asking_ticks (L.told link.old) (L.told link.new) }
-    // Over a link that tells, and whose count of faults didn't rise, the answer is earned or caused by what happened,
+    // Over a link that tells, the answer is earned or caused by what happened,
     // and the command ends as its answer says.
-    ensures caused { (Rose (L.faults link.old) (L.faults link.new) → ⊥) → IfOk result (λ answer.
+    ensures caused { IfOk result (λ answer.
         Moves (L.told link.old) (L.told link.new) (IsAddrAnswer config.now answer)) }
-    ensures fault { IfOk result (λ answer. IsFault answer → Rose (L.faults link.old) (L.faults link.new)) }
+    ensures fault { IfOk result (FaultIsCounted (L.faults link.old) (L.faults link.new)) }
+    ensures needs { IfOk result (AddrNeeds (config.now.tries * config.now.wait) (IsMet (L.handed link.old) (L.handed link.new) (L.clock link.old) (L.clock link.new))) }
+    ensures counts { L.handed link.old ≤ L.handed link.new }
+    ensures later { L.clock link.old ≤ L.clock link.new }
+    ensures fails { Fails (told_fails result) (L.told link.old) (L.told link.new) }
     ensures faults { L.faults link.old ≤ L.faults link.new }
     ensures drained { L.drained link.new ≡ L.drained link.old }
 {

@@ -1,17 +1,18 @@
 //! How the client boots, as far as that is built: RARP, TFTP from the responder, and the calls that lead to its root.
-ghost use Rattle.std.specs.Prelude.{◌≡◌, ◌≤◌, ◌+◌, ◌%◌, IfOk, OnOk};
+ghost use Rattle.std.specs.Prelude.{◌≡◌, ◌≤◌, ◌+◌, ◌%◌, IfOk, OnOk, ◌*◌};
 ghost use Rattle.sd_config.specs.declared.command.Command.TheVariants as commands;
-ghost use Rattle.sd_outside.specs.Causes.{Rose};
 ghost use Rattle.sd_config.specs.Config.{IsArch};
 ghost use Rattle.sd_link.specs.Link.{Moves};
 ghost use Rattle.sd_config.specs.Program.{program_name};
 ghost use Rattle.sd_tftp.specs.Grammar.{HasNoZero};
-ghost use Rattle.sd_rpc_retry.specs.Lasting.{Lasts};
+ghost use Rattle.sd_rpc_retry.specs.Lasting.{Lasts, Fails};
+ghost use Rattle.sd_boot_chain.specs.Failing.{told_fails};
 ghost use Rattle.sd_boot_chain.specs.Durations.{most_ticks, most_boot_ticks, most_calls_ticks, most_calls, HasCallsLeft};
 ghost use Rattle.sd_boot_chain.specs.Boot.{caller_of, IsBootAnswer};
 ghost use Rattle.sd_boot_chain.specs.Root.{IsCallsAnswer};
-ghost use Rattle.sd_boot_chain.specs.Step.{IsFault, IsDone};
+ghost use Rattle.sd_boot_chain.specs.Step.{IsDone};
 ghost use Rattle.sd_boot_chain.specs.Address.{shows_learned};
+ghost use Rattle.sd_claims.specs.AnyLink.{IsMet, BootNeeds, FaultIsCounted};
 
 use crate::address::Learned;
 use crate::client::Client;
@@ -50,12 +51,18 @@ impl Client {
     pub fn boot<L: Link>(&mut self, link: &mut L) -> Result<Told, NoMemory>
         requires xid { HasCallsLeft self.old.next_xid }
         ensures same { self.new.config ≡ self.old.config }
-        // Over a link that tells, and whose count of faults didn't rise, the answer is earned or caused by what happened.
-        ensures caused { (Rose (L.faults link.old) (L.faults link.new) → ⊥) → IfOk result (λ answer.
+        // Over a link that tells, the answer is earned or caused by what happened.
+        ensures caused { IfOk result (λ answer.
             Moves (L.told link.old) (L.told link.new) (IsDone self.old commands.Boot answer self.new)) }
         ensures calls { self.new.next_xid ≤ self.old.next_xid + most_calls }
         ensures lasts { Lasts most_ticks (L.told link.old) (L.told link.new) }
-        ensures fault { IfOk result (λ answer. IsFault answer → Rose (L.faults link.old) (L.faults link.new)) }
+        // The link failed exactly where the answer says so, and then its count of faults rose.
+        ensures fails { Fails (told_fails result) (L.told link.old) (L.told link.new) }
+        ensures fault { IfOk result (FaultIsCounted (L.faults link.old) (L.faults link.new)) }
+        // Over every link an answer needs a packet, a flood its packets, and a timeout the whole time.
+        ensures needs { IfOk result (BootNeeds (self.old.config.tries * self.old.config.wait) (IsMet (L.handed link.old) (L.handed link.new) (L.clock link.old) (L.clock link.new))) }
+        ensures counts { L.handed link.old ≤ L.handed link.new }
+        ensures later { L.clock link.old ≤ L.clock link.new }
         ensures faults { L.faults link.old ≤ L.faults link.new }
         ensures drained { L.drained link.new ≡ L.drained link.old }
     {
@@ -72,11 +79,15 @@ impl Client {
     fn fetch_program<L: Link>(&mut self, link: &mut L, learned: Learned) -> Result<Told, NoMemory>
         requires xid { HasCallsLeft self.old.next_xid }
         ensures same { self.new.config ≡ self.old.config }
-        ensures caused { (Rose (L.faults link.old) (L.faults link.new) → ⊥) → IfOk result (λ answer.
+        ensures caused { IfOk result (λ answer.
             Moves (L.told link.old) (L.told link.new) (IsBootAnswer self.old (shows_learned learned) answer self.new)) }
         ensures calls { self.new.next_xid ≤ self.old.next_xid + most_calls }
         ensures lasts { Lasts most_boot_ticks (L.told link.old) (L.told link.new) }
-        ensures fault { IfOk result (λ answer. IsFault answer → Rose (L.faults link.old) (L.faults link.new)) }
+        ensures fault { IfOk result (FaultIsCounted (L.faults link.old) (L.faults link.new)) }
+        ensures needs { IfOk result (BootNeeds (self.old.config.tries * self.old.config.wait) (IsMet (L.handed link.old) (L.handed link.new) (L.clock link.old) (L.clock link.new))) }
+        ensures counts { L.handed link.old ≤ L.handed link.new }
+        ensures later { L.clock link.old ≤ L.clock link.new }
+        ensures fails { Fails (told_fails result) (L.told link.old) (L.told link.new) }
         ensures faults { L.faults link.old ≤ L.faults link.new }
         ensures drained { L.drained link.new ≡ L.drained link.old }
     {
@@ -108,7 +119,11 @@ impl Client {
         ensures told { IfOk result (λ answer. Moves (L.told link.old) (L.told link.new) (IsCallsAnswer (caller_of self.old address) program answer self.new.next_xid)) }
         ensures calls { self.new.next_xid ≤ self.old.next_xid + most_calls }
         ensures lasts { Lasts most_calls_ticks (L.told link.old) (L.told link.new) }
-        ensures fault { IfOk result (λ answer. IsFault answer → Rose (L.faults link.old) (L.faults link.new)) }
+        ensures fault { IfOk result (FaultIsCounted (L.faults link.old) (L.faults link.new)) }
+        ensures needs { IfOk result (BootNeeds (self.old.config.tries * self.old.config.wait) (IsMet (L.handed link.old) (L.handed link.new) (L.clock link.old) (L.clock link.new))) }
+        ensures counts { L.handed link.old ≤ L.handed link.new }
+        ensures later { L.clock link.old ≤ L.clock link.new }
+        ensures fails { Fails (told_fails result) (L.told link.old) (L.told link.new) }
         ensures faults { L.faults link.old ≤ L.faults link.new }
         ensures drained { L.drained link.new ≡ L.drained link.old }
     {

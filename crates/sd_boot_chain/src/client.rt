@@ -1,18 +1,23 @@
 //! The diskless client.
-ghost use Rattle.std.specs.Prelude.{◌≡◌, ◌≤◌, ◌+◌, ◌%◌, IfOk};
+ghost use Rattle.std.specs.Prelude.{◌≡◌, ◌≤◌, ◌+◌, ◌%◌, IfOk, ◌*◌, IfSome};
 ghost use Rattle.sd_outside.specs.Causes.{Rose};
 ghost use Rattle.sd_config.specs.Config.{IsClientConfig};
+ghost use Rattle.sd_link.specs.Steps.{IsLawfulSoFar};
 ghost use Rattle.sd_link.specs.Link.{Moves};
 ghost use Rattle.sd_config.specs.Commands.{IsCommand};
 ghost use Rattle.sd_claims.specs.Rarp.{rarp_request, rarp_hearing};
-ghost use Rattle.sd_rpc_retry.specs.Lasting.{Lasts, most_asking_ticks};
+ghost use Rattle.sd_rpc_retry.specs.Lasting.{Lasts, most_asking_ticks, Fails};
+ghost use Rattle.sd_rpc_retry.specs.Sending.{asked_fails};
+ghost use Rattle.sd_boot_chain.specs.Failing.{told_fails};
 ghost use Rattle.sd_rpc_retry.specs.Asking.{IsAsked, IsAskedFault};
 ghost use Rattle.sd_boot_chain.specs.Address.{shows_learned, IsAddrAnswer};
 ghost use Rattle.sd_claims.specs.Booting.{first_counts};
 ghost use Rattle.sd_boot_chain.specs.Boot.{task_of, caller_of};
 ghost use Rattle.sd_boot_chain.specs.Durations.{most_ticks, most_calls, HasCallsLeft};
 ghost use Rattle.sd_boot_chain.specs.Fetch.{IsFetch, fetch_of};
-ghost use Rattle.sd_boot_chain.specs.Step.{IsFault, IsDone};
+ghost use Rattle.sd_boot_chain.specs.Step.{IsDone};
+ghost use Rattle.sd_claims.specs.AnyLink.{IsMet, AddrNeeds, Needs, FaultIsCounted};
+ghost use Rattle.sd_boot_chain.specs.Needs.{AskedNeeds};
 
 use crate::address::{Learned, learn, own_address};
 use crate::boot::program_name;
@@ -78,8 +83,13 @@ impl Client {
     pub(crate) fn learn_address<L: Link>(&self, link: &mut L) -> Result<Asked<Learned>, NoMemory>
         ensures told { IfOk result (λ asked. Moves (L.told link.old) (L.told link.new)
             (IsAsked (rarp_request self.now.config.mac) (rarp_hearing self.now.config.mac) shows_learned self.now.config.tries self.now.config.wait asked)) }
+        ensures lawful { IfOk result (λ asked. IfSome (L.told link.old) IsLawfulSoFar) }
         ensures lasts { Lasts most_asking_ticks (L.told link.old) (L.told link.new) }
         ensures fault { IfOk result (λ asked. IsAskedFault asked → Rose (L.faults link.old) (L.faults link.new)) }
+        ensures needs { IfOk result (AskedNeeds (self.now.config.tries * self.now.config.wait) (IsMet (L.handed link.old) (L.handed link.new) (L.clock link.old) (L.clock link.new))) }
+        ensures counts { L.handed link.old ≤ L.handed link.new }
+        ensures later { L.clock link.old ≤ L.clock link.new }
+        ensures fails { Fails (asked_fails result) (L.told link.old) (L.told link.new) }
         ensures faults { L.faults link.old ≤ L.faults link.new }
         ensures drained { L.drained link.new ≡ L.drained link.old }
     {
@@ -89,9 +99,13 @@ impl Client {
     /// Asks for one's own address, and answers the command.
     fn answer_address<L: Link>(&self, link: &mut L) -> Result<Told, NoMemory>
         ensures lasts { Lasts most_asking_ticks (L.told link.old) (L.told link.new) }
-        ensures caused { (Rose (L.faults link.old) (L.faults link.new) → ⊥) → IfOk result (λ answer.
+        ensures caused { IfOk result (λ answer.
             Moves (L.told link.old) (L.told link.new) (IsAddrAnswer self.now.config answer)) }
-        ensures fault { IfOk result (λ answer. IsFault answer → Rose (L.faults link.old) (L.faults link.new)) }
+        ensures fault { IfOk result (FaultIsCounted (L.faults link.old) (L.faults link.new)) }
+        ensures needs { IfOk result (AddrNeeds (self.now.config.tries * self.now.config.wait) (IsMet (L.handed link.old) (L.handed link.new) (L.clock link.old) (L.clock link.new))) }
+        ensures counts { L.handed link.old ≤ L.handed link.new }
+        ensures later { L.clock link.old ≤ L.clock link.new }
+        ensures fails { Fails (told_fails result) (L.told link.old) (L.told link.new) }
         ensures faults { L.faults link.old ≤ L.faults link.new }
         ensures drained { L.drained link.new ≡ L.drained link.old }
     {
@@ -153,14 +167,20 @@ impl Client {
         requires command { IsCommand command.now }
         requires xid { HasCallsLeft self.old.next_xid }
         ensures same { self.new.config ≡ self.old.config }
-        // Over a link that tells, and whose count of faults didn't rise, the answer is earned or caused by what happened,
+        // Over a link that tells, the answer is earned or caused by what happened,
         // and the command ends as its answer says.
-        ensures caused { (Rose (L.faults link.old) (L.faults link.new) → ⊥) → IfOk result (λ answer.
+        ensures caused { IfOk result (λ answer.
             Moves (L.told link.old) (L.told link.new) (IsDone self.old command.now answer self.new)) }
         ensures calls { self.new.next_xid ≤ self.old.next_xid + most_calls }
         // Whatever comes of it, a link that tells goes on telling.
         ensures lasts { Lasts most_ticks (L.told link.old) (L.told link.new) }
-        ensures fault { IfOk result (λ answer. IsFault answer → Rose (L.faults link.old) (L.faults link.new)) }
+        // The link failed exactly where the answer says so, and then its count of faults rose.
+        ensures fails { Fails (told_fails result) (L.told link.old) (L.told link.new) }
+        ensures fault { IfOk result (FaultIsCounted (L.faults link.old) (L.faults link.new)) }
+        // Over every link an answer that names a reply needs a packet, a flood its packets, and a timeout the whole time.
+        ensures needs { IfOk result (Needs (self.old.config.tries * self.old.config.wait) (IsMet (L.handed link.old) (L.handed link.new) (L.clock link.old) (L.clock link.new)) command.now) }
+        ensures counts { L.handed link.old ≤ L.handed link.new }
+        ensures later { L.clock link.old ≤ L.clock link.new }
         ensures faults { L.faults link.old ≤ L.faults link.new }
         ensures drained { L.drained link.new ≡ L.drained link.old }
     {

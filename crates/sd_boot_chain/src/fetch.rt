@@ -1,26 +1,23 @@
 //! How the client fetches a file by TFTP (RFC 1350).
-ghost use Rattle.std.specs.Prelude.{◌≡◌, ◌≤◌, IfOk};
+ghost use Rattle.std.specs.Prelude.{◌≡◌, ◌≤◌, ◌*◌, IfOk, IfSome};
 ghost use Rattle.sd_outside.specs.Causes.{Rose};
-ghost use Rattle.sd_link.specs.Link.{Moves};
+ghost use Rattle.sd_link.specs.Link.{Moves, IsReached};
 ghost use Rattle.sd_tftp.specs.Grammar.{HasSpelling, HasNoZero};
 ghost use Rattle.sd_tftp.specs.ReceiverTurn.{turn};
 ghost use Rattle.sd_claims.specs.Fetching.{tftp_from, read_request, acknowledge, turn_away};
 ghost use Rattle.sd_rpc_retry.specs.Asking.{IsNoMatch};
-ghost use Rattle.sd_rpc_retry.specs.Lasting.{Lasts};
+ghost use Rattle.sd_rpc_retry.specs.Lasting.{Lasts, Fails};
+ghost use Rattle.sd_boot_chain.specs.Failing.{fetch_fails};
 ghost use Rattle.sd_boot_chain.specs.Durations.{most_fetch_ticks};
-ghost use Rattle.sd_boot_chain.specs.Fetch.{fetch_of, IsFetch, CameOf, GivesFile, IsFetchFault, Finishes, LooksAt};
+ghost use Rattle.sd_boot_chain.specs.Fetch.{fetch_of, IsFetch, CameOf, GivesFile, IsFetchFault, IsFinished, Finishes, LooksAt};
+ghost use Rattle.sd_claims.specs.AnyLink.{IsMet};
+ghost use Rattle.sd_boot_chain.specs.Needs.{FetchNeeds};
 
 use sd_link::{Link, LinkError};
 use sd_outside::{Addr, ByteList, NoMemory, Packet};
 use sd_rpc_retry::{Asked, Listener, Look, ask};
-use sd_tftp::{Receiver, Step, TftpError, TftpPacket, read_packet, write_packet};
+use sd_tftp::{Receiver, Step, TFTP_PORT, TftpError, TftpPacket, read_packet, write_packet};
 use std::alloc::Global;
-
-/// The port for requests.
-const REQUESTS: u16 = 69;
-
-/// The last number that a block can have.
-const LAST_NUMBER: u32 = 65_535;
 
 /// A file to fetch.
 #[derive(Drop)]
@@ -100,7 +97,7 @@ impl Task {
     {
         let to = Addr {
             ip: self.server,
-            port: REQUESTS,
+            port: TFTP_PORT,
         };
         let name = self.name.copy()?;
         let mode = ByteList::from_slice(alloc, b"octet")?;
@@ -169,8 +166,13 @@ impl BlockListener {
 /// Acknowledges the last block.
 fn finish<L: Link>(link: &mut L, request: &Packet, receiver: Receiver) -> Result<Fetched, NoMemory>
     ensures told { IfOk result (λ came. Moves (L.told link.old) (L.told link.new) (Finishes request.now receiver came)) }
+    ensures ended { IfOk result IsFinished }
     ensures lasts { Lasts 0 (L.told link.old) (L.told link.new) }
+    ensures reached { IfSome (L.told link.new) IsReached }
     ensures fault { IfOk result (λ came. IsFetchFault came → Rose (L.faults link.old) (L.faults link.new)) }
+    ensures counts { L.handed link.old ≤ L.handed link.new }
+    ensures later { L.clock link.old ≤ L.clock link.new }
+    ensures fails { Fails (fetch_fails result) (L.told link.old) (L.told link.new) }
     ensures faults { L.faults link.old ≤ L.faults link.new }
     ensures drained { L.drained link.new ≡ L.drained link.old }
 {
@@ -190,12 +192,17 @@ pub(crate) fn fetch<L: Link>(alloc: Global, link: &mut L, fetch: &Task) -> Resul
     ensures file { IfOk result (λ came. Moves (L.told link.old) (L.told link.new) (GivesFile (fetch_of fetch.now) came)) }
     ensures lasts { Lasts most_fetch_ticks (L.told link.old) (L.told link.new) }
     ensures fault { IfOk result (λ came. IsFetchFault came → Rose (L.faults link.old) (L.faults link.new)) }
+    // Over every link an answer needs a packet, a flood its packets, and a timeout the whole time.
+    ensures needs { IfOk result (FetchNeeds (fetch.now.tries * fetch.now.wait) (IsMet (L.handed link.old) (L.handed link.new) (L.clock link.old) (L.clock link.new))) }
+    ensures counts { L.handed link.old ≤ L.handed link.new }
+    ensures later { L.clock link.old ≤ L.clock link.new }
+    ensures fails { Fails (fetch_fails result) (L.told link.old) (L.told link.new) }
     ensures faults { L.faults link.old ≤ L.faults link.new }
     ensures drained { L.drained link.new ≡ L.drained link.old }
 {
     let mut request = fetch.read_request(alloc)?;
     let mut receiver = Receiver::new(alloc, fetch.server);
-    for count in 0..LAST_NUMBER {
+    'fetching: loop {
         let mut listener = BlockListener {
             alloc,
             me: fetch.me,
@@ -216,5 +223,4 @@ pub(crate) fn fetch<L: Link>(alloc: Global, link: &mut L, fetch: &Task) -> Resul
             Asked::Fault => return Ok(Fetched::Fault),
         }
     }
-    unreachable!()
 }

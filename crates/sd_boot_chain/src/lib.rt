@@ -11,11 +11,9 @@ mod fetch;
 mod pause;
 mod root;
 mod transcript;
-mod writing;
 
 pub use client::Client;
 pub use transcript::{SessionError, session};
-pub use writing::write_all;
 
 #[cfg(test)]
 mod tests;

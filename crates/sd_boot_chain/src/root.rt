@@ -1,6 +1,6 @@
 //! How the client finds its root after its boot program was fetched: it asks for its name and for its root (bootparams), and
 //! then for the port of MOUNT at the server of its root (RFC 1057, appendix A).
-ghost use Rattle.std.specs.Prelude.{◌≡◌, ◌<◌, ◌≤◌, ◌+◌, ◌-◌, ◌^◌, length, codes, IfOk, IfErr, OnOk, Ok, Result};
+ghost use Rattle.std.specs.Prelude.{◌≡◌, ◌<◌, ◌≤◌, ◌+◌, ◌-◌, ◌^◌, length, codes, IfOk, IfErr, OnOk, Ok, Result, ◌*◌};
 ghost use Rattle.sd_bootparams.specs.Layout.{name_limit, key_limit};
 ghost use Rattle.sd_outside.specs.Causes.{Rose};
 ghost use Rattle.sd_link.specs.Link.{Moves};
@@ -9,22 +9,20 @@ ghost use Rattle.sd_rpc_retry.specs.declared.calling.CallError.TheVariants as er
 ghost use Rattle.sd_rpc_retry.specs.declared.calling.Answer.TheVariants as answers;
 ghost use Rattle.sd_rpc_retry.specs.Calling.{AskFits};
 ghost use Rattle.sd_rpc_retry.specs.Calls.{IsAnswerTo};
-ghost use Rattle.sd_rpc_retry.specs.Lasting.{Lasts, most_asking_ticks};
+ghost use Rattle.sd_rpc_retry.specs.Lasting.{Lasts, most_asking_ticks, Fails};
+ghost use Rattle.sd_boot_chain.specs.Failing.{call_fails};
 ghost use Rattle.sd_claims.specs.Booting.{CallTold, after_call, portmapper, whoami_call, getfile_call, getport_call};
 ghost use Rattle.sd_boot_chain.specs.Durations.{most_calls_ticks};
 ghost use Rattle.sd_boot_chain.specs.Root.{CallCame, Names, Places, CallsCame, calls_of, answer_without, answer_to};
+ghost use Rattle.sd_claims.specs.AnyLink.{IsMet};
+ghost use Rattle.sd_boot_chain.specs.Needs.{CallNeeds};
 
 use sd_config::{Stage, Told};
 use sd_link::Link;
-use sd_outside::{Addr, ByteList, NoMemory};
-use sd_rpc_retry::{Answer, Ask, CallError, Caller};
+use sd_outside::{Addr, BROADCAST_IP, ByteList, NoMemory};
+use sd_portmap::PMAP_PORT;
+use sd_rpc_retry::{CallError, Caller, Getfile, Getport, Named, Question, Tally, Whoami};
 use std::alloc::Global;
-
-/// The portmapper's port.
-const PORTMAPPER: u16 = 111;
-
-/// Everyone on this network.
-const EVERYONE: u32 = 0xffff_ffff;
 
 /// MOUNT, version 1 (RFC 1094, appendix A).
 const MOUNT: u32 = 100_005;
@@ -38,50 +36,46 @@ pub(crate) struct Unanswered {
     pub error: CallError,
 }
 
-/// What the client is called.
-#[derive(Drop)]
-pub(crate) struct Named {
-    /// The address of who said so.
-    pub from: u32,
-    /// The client's name, of at most 255 bytes.
-    pub client: ByteList,
-}
-
 /// The portmapper of a machine.
 fn portmapper(ip: u32) -> Addr
     ensures { result ≡ portmapper ip }
 {
     Addr {
         ip,
-        port: PORTMAPPER,
+        port: PMAP_PORT,
     }
 }
 
 /// Makes the call of a step.
-fn ask_at<L: Link>(
+fn ask_at<L: Link, Q: Question>(
     alloc: Global,
     link: &mut L,
     caller: &mut Caller,
     step: Stage,
     dst: Addr,
-    asked: &Ask,
-) -> Result<Answer, Unanswered>
+    question: &Q,
+) -> Result<Q::Told, Unanswered>
     requires xid { caller.old.next_xid < 2 ^ 32 - 1 }
     requires tries { caller.old.tries ≤ 64 }
     requires wait { caller.old.wait ≤ 1000 }
     requires machine { length caller.old.machine ≤ 255 }
-    requires fits { AskFits asked.now }
+    requires fits { AskFits (Q.ask question.now) }
     ensures xid { caller.new ≡ after_call caller.old }
-    ensures told { Moves (L.told link.old) (L.told link.new) (CallCame (λ answer. CallTold (Ok answer)) caller.old (record { dst = dst; ask = asked.now }) result) }
-    ensures answers { IfOk result (IsAnswerTo asked.now) }
+    ensures told { Moves (L.told link.old) (L.told link.new) (CallCame (λ told. CallTold (Ok (Q.shown told))) caller.old (record { dst = dst; ask = Q.ask question.now }) result) }
+    ensures answers { IfOk result (λ told. IsAnswerTo (Q.ask question.now) (Q.shown told)) }
     ensures step { IfErr result (λ why. why.step ≡ step) }
     ensures lasts { Lasts most_asking_ticks (L.told link.old) (L.told link.new) }
     ensures fault { IfErr result (λ why. why.error ≡ error.LinkFault → Rose (L.faults link.old) (L.faults link.new)) }
+    ensures needs { CallNeeds (caller.old.tries * caller.old.wait) (IsMet (L.handed link.old) (L.handed link.new) (L.clock link.old) (L.clock link.new)) result }
+    ensures counts { L.handed link.old ≤ L.handed link.new }
+    ensures later { L.clock link.old ≤ L.clock link.new }
+    ensures fails { Fails (call_fails result) (L.told link.old) (L.told link.new) }
     ensures faults { L.faults link.old ≤ L.faults link.new }
     ensures drained { L.drained link.new ≡ L.drained link.old }
 {
-    match caller.call(alloc, link, dst, asked).answer {
-        Ok(answer) => Ok(answer),
+    let mut tally = Tally { sends: 0, last: 0 };
+    match caller.call(alloc, link, dst, question, &mut tally) {
+        Ok(told) => Ok(told),
         Err(error) => Err(Unanswered { step, error }),
     }
 }
@@ -98,23 +92,23 @@ fn whoami<L: Link>(alloc: Global, link: &mut L, caller: &mut Caller) -> Result<N
     ensures step { IfErr result (λ why. why.step ≡ stage.Whoami) }
     ensures lasts { Lasts most_asking_ticks (L.told link.old) (L.told link.new) }
     ensures fault { IfErr result (λ why. why.error ≡ error.LinkFault → Rose (L.faults link.old) (L.faults link.new)) }
+    ensures needs { CallNeeds (caller.old.tries * caller.old.wait) (IsMet (L.handed link.old) (L.handed link.new) (L.clock link.old) (L.clock link.new)) result }
+    ensures counts { L.handed link.old ≤ L.handed link.new }
+    ensures later { L.clock link.old ≤ L.clock link.new }
+    ensures fails { Fails (call_fails result) (L.told link.old) (L.told link.new) }
     ensures faults { L.faults link.old ≤ L.faults link.new }
     ensures drained { L.drained link.new ≡ L.drained link.old }
 {
-    let asked = Ask::Whoami { ip: caller.ip };
-    let answer = ask_at(
+    let asked = Whoami { ip: caller.ip };
+    let named = ask_at(
         alloc,
         link,
         caller,
         Stage::Whoami,
-        portmapper(EVERYONE),
+        portmapper(BROADCAST_IP),
         &asked,
     )?;
-    match answer {
-        Answer::Whoami { from, client, .. } => Ok(Named { from, client }),
-        Answer::Getfile { .. } => unreachable!(),
-        Answer::Port(_) => unreachable!(),
-    }
+    Ok(named)
 }
 
 /// Asks who told the client's name for the server of the file that a key stands for, and gives its address.
@@ -136,20 +130,20 @@ fn getfile<L: Link>(
     ensures step { IfErr result (λ why. why.step ≡ stage.Getfile) }
     ensures lasts { Lasts most_asking_ticks (L.told link.old) (L.told link.new) }
     ensures fault { IfErr result (λ why. why.error ≡ error.LinkFault → Rose (L.faults link.old) (L.faults link.new)) }
+    ensures needs { CallNeeds (caller.old.tries * caller.old.wait) (IsMet (L.handed link.old) (L.handed link.new) (L.clock link.old) (L.clock link.new)) result }
+    ensures counts { L.handed link.old ≤ L.handed link.new }
+    ensures later { L.clock link.old ≤ L.clock link.new }
+    ensures fails { Fails (call_fails result) (L.told link.old) (L.told link.new) }
     ensures faults { L.faults link.old ≤ L.faults link.new }
     ensures drained { L.drained link.new ≡ L.drained link.old }
 {
     let dst = portmapper(named.from);
-    let asked = Ask::Getfile {
+    let asked = Getfile {
         client: named.client,
         key,
     };
-    let answer = ask_at(alloc, link, caller, Stage::Getfile, dst, &asked)?;
-    match answer {
-        Answer::Getfile { ip, .. } => Ok(ip),
-        Answer::Whoami { .. } => unreachable!(),
-        Answer::Port(_) => unreachable!(),
-    }
+    let located = ask_at(alloc, link, caller, Stage::Getfile, dst, &asked)?;
+    Ok(located.ip)
 }
 
 /// Asks a server for the port of MOUNT, which is 0 where it has none.
@@ -168,14 +162,18 @@ fn getport<L: Link>(
     ensures step { IfErr result (λ why. why.step ≡ stage.Getport) }
     ensures lasts { Lasts most_asking_ticks (L.told link.old) (L.told link.new) }
     ensures fault { IfErr result (λ why. why.error ≡ error.LinkFault → Rose (L.faults link.old) (L.faults link.new)) }
+    ensures needs { CallNeeds (caller.old.tries * caller.old.wait) (IsMet (L.handed link.old) (L.handed link.new) (L.clock link.old) (L.clock link.new)) result }
+    ensures counts { L.handed link.old ≤ L.handed link.new }
+    ensures later { L.clock link.old ≤ L.clock link.new }
+    ensures fails { Fails (call_fails result) (L.told link.old) (L.told link.new) }
     ensures faults { L.faults link.old ≤ L.faults link.new }
     ensures drained { L.drained link.new ≡ L.drained link.old }
 {
-    let asked = Ask::Getport {
+    let asked = Getport {
         prog: MOUNT,
         vers: MOUNT_VERSION,
     };
-    let answer = ask_at(
+    let port = ask_at(
         alloc,
         link,
         caller,
@@ -183,11 +181,7 @@ fn getport<L: Link>(
         portmapper(server),
         &asked,
     )?;
-    match answer {
-        Answer::Port(port) => Ok(port),
-        Answer::Whoami { .. } => unreachable!(),
-        Answer::Getfile { .. } => unreachable!(),
-    }
+    Ok(port)
 }
 
 /// Makes the three calls, of which the second asks for `root`, and gives the port of MOUNT, or 0 where there is none.
@@ -206,6 +200,10 @@ pub(crate) fn find_mount<L: Link>(
     ensures told { Moves (L.told link.old) (L.told link.new) (CallsCame caller.old result) }
     ensures lasts { Lasts most_calls_ticks (L.told link.old) (L.told link.new) }
     ensures fault { IfErr result (λ why. why.error ≡ error.LinkFault → Rose (L.faults link.old) (L.faults link.new)) }
+    ensures needs { CallNeeds (caller.old.tries * caller.old.wait) (IsMet (L.handed link.old) (L.handed link.new) (L.clock link.old) (L.clock link.new)) result }
+    ensures counts { L.handed link.old ≤ L.handed link.new }
+    ensures later { L.clock link.old ≤ L.clock link.new }
+    ensures fails { Fails (call_fails result) (L.told link.old) (L.told link.new) }
     ensures faults { L.faults link.old ≤ L.faults link.new }
     ensures drained { L.drained link.new ≡ L.drained link.old }
 {

@@ -28,6 +28,3 @@ pub use message::{BpArgs, BpResult};
 pub use params::{Entry, Params, ParamsError, Why};
 pub use reading::{read_bp_args, read_bp_result};
 pub use writing::{write_bp_args, write_bp_result};
-
-#[cfg(test)]
-mod tests;

@@ -65,13 +65,15 @@ impl Params {
         }
     }
 
-    pub(crate) fn clients(&self) -> &[ByteList]
+    /// The clients that have a line, in the order of the file.
+    pub fn clients(&self) -> &[ByteList]
         ensures { result.now ≡ self.now.clients }
     {
         self.clients.as_slice()
     }
 
-    pub(crate) fn entries(&self) -> &[Entry]
+    /// The entries of all clients, in the order of the file.
+    pub fn entries(&self) -> &[Entry]
         ensures { result.now ≡ self.now.entries }
     {
         self.entries.as_slice()

@@ -8,7 +8,7 @@ use Rattle.sd_link.specs.Tries.{beyond}
 use Rattle.sd_rpc_retry.specs.declared.calling.Caller.{Caller}
 use Rattle.sd_claims.specs.Rarp.{Learned}
 use Rattle.sd_claims.specs.Fetching.{Fetched}
-use Rattle.sd_claims.specs.Booting.{Counts, Call, LearnsAddress, ComesTo, to_whoami, to_getfile, to_getport, boot_fetch}
+use Rattle.sd_claims.specs.Booting.{Counts, Call, LearnsAddress, IsServerIp, ComesTo, to_whoami, to_getfile, to_getport, boot_fetch}
 
 -- the address was told, then the program was fetched, and then came the rest
 pub record Began (settled : List Step → Type 0) (c : Config) (n : Counts) (program : List ℕ) (part : List Step) : Type 0 where
@@ -17,15 +17,16 @@ pub record Began (settled : List Step → Type 0) (c : Config) (n : Counts) (pro
   pub fetch : List Step
   pub rest : List Step
   pub told : LearnsAddress settled c learned address
+  pub named : IsServerIp c learned.responder
   pub fetched : Fetched (beyond settled address) (boot_fetch c n.boots learned) program fetch
   pub cut : part ≡ address ++ (fetch ++ rest)
 
 module _ (settled : List Step → Type 0) (c : Config) (n : Counts) (program : List ℕ) where
   same_start : (part whole : List Step) → whole ≡ part → Began settled c n program part → Began settled c n program whole
-  same_start part whole is b = record { learned = b.learned; address = b.address; fetch = b.fetch; rest = b.rest; told = b.told; fetched = b.fetched; cut = is ∙ b.cut }
+  same_start part whole is b = record { learned = b.learned; address = b.address; fetch = b.fetch; rest = b.rest; told = b.told; named = b.named; fetched = b.fetched; cut = is ∙ b.cut }
 
   pub began : (step : Stage) (caller : Caller) (call : Call) (part more : List Step) → ComesTo settled c n program step caller call part → Began settled c n program (part ++ more)
-  began _ _ _ _ more (to_whoami learned address fetch told fetched) = record { learned = learned; address = address; fetch = fetch; rest = more; told = told; fetched = fetched; cut = append_assoc address fetch more }
+  began _ _ _ _ more (to_whoami learned address fetch told named fetched) = record { learned = learned; address = address; fetch = fetch; rest = more; told = told; named = named; fetched = fetched; cut = append_assoc address fetch more }
   began _ _ _ _ more (to_getfile caller call before last from client domain router to told) =
       same_start (before ++ (last ++ more)) ((before ++ last) ++ more) (append_assoc before last more) (began stage.Whoami caller call before (last ++ more) to)
   began _ _ _ _ more (to_getport caller call before last from server ip path to told) =

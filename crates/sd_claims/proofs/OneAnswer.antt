@@ -1,7 +1,7 @@
 -- One part has one answer: what comes of each request in turn is fixed, and it fixes what the client does next.
-use Rattle.std.proofs.Common.{◌≡◌, ℕ, zero, suc, ◌<◌, true, false, List, [], ◌∷◌, ◌++◌, length, Ok, Err, refl, sym, ◌∙◌, ap, subst, arith, append_assoc}
+use Rattle.std.proofs.Common.{◌≡◌, ℕ, zero, suc, ◌<◌, true, false, List, [], ◌∷◌, ◌++◌, length, Ok, Err, refl, sym, ◌∙◌, ap, subst, arith, append_assoc, inl, inr}
 use Rattle.std.specs.List.{concat}
-use Rattle.std.specs.Prelude.{codes}
+use Rattle.std.specs.Prelude.{◌⊎◌, codes}
 use Rattle.std.proofs.lemmas.List.{append-nil}
 use Rattle.sd_outside.specs.declared.packet.Packet.{Packet}
 use Rattle.sd_tftp.specs.declared.step.Step as answers
@@ -21,11 +21,11 @@ use Rattle.sd_rpc_retry.specs.Calling.{Verdict, request, hearing_of}
 use Rattle.sd_config.specs.declared.command.Command.{Command}
 use Rattle.sd_config.specs.declared.command.Command.TheVariants as command
 use Rattle.sd_config.specs.declared.told.Told.{Told}
-use Rattle.sd_config.specs.declared.told.Told.TheVariants.{AddrOk, AddrTimeout, AddrFlood, BootUnbuilt, BootTimeout, BootFlood, BootDenied, BootRefused, BootNoPort, BootTooLarge, WaitOk, WaitFlood}
+use Rattle.sd_config.specs.declared.told.Told.TheVariants.{AddrOk, AddrTimeout, AddrFlood, BootUnbuilt, BootTimeout, BootFlood, BootDenied, BootRefused, BootNoPort, BootTooLarge, WaitOk, WaitFlood, AddrLinkFault, BootLinkFault, WaitLinkFault}
 use Rattle.sd_claims.specs.Rarp.{Learned, rarp_request, rarp_hearing}
 use Rattle.sd_claims.specs.Fetching.{Fetch, Takes, takes_none, takes_block, Brings, request_of, fetch_hearing, acknowledge, FetchTimedOut, FetchFlooded, FetchRefused, FetchTooLarge, Fetched}
-use Rattle.sd_claims.specs.Booting.{Counts, LearnsAddress, Call, OfFetch, OfCall, ComesTo, to_whoami, to_getfile, to_getport, boot_fetch, caller_after, after_call, whoami_call, getfile_call, getport_call, CallTold, CallTimedOut, CallFlooded}
-use Rattle.sd_claims.specs.Causes.{Cause, addr_ok, addr_timeout, addr_flood, boot_unbuilt, boot_timeout_rarp, boot_timeout_tftp, boot_timeout_call, boot_flood_rarp, boot_flood_tftp, boot_flood_call, boot_denied, boot_refused, boot_no_port, boot_too_large, wait_ok, wait_flood}
+use Rattle.sd_claims.specs.Booting.{Counts, LearnsAddress, Call, OfFetch, OfCall, ComesTo, to_whoami, to_getfile, to_getport, boot_fetch, caller_after, after_call, whoami_call, getfile_call, getport_call, CallTold, ServerTold, CallTimedOut, CallFlooded}
+use Rattle.sd_claims.specs.Causes.{Cause, addr_ok, addr_timeout, addr_flood, boot_unbuilt, boot_timeout_rarp, boot_timeout_tftp, boot_timeout_call, boot_flood_rarp, boot_flood_tftp, boot_flood_call, boot_denied, boot_refused, boot_no_port, boot_too_large, wait_ok, wait_flood, addr_linkfault, boot_linkfault, wait_linkfault, IsCaused, faults_told}
 use Rattle.sd_claims.specs.Laws.{HasOneAnswer}
 use Rattle.sd_claims.proofs.OneOutcome.{Outcome, told, timed_out, flooded, Ended, one_outcome, is_vain, is_full}
 
@@ -276,35 +276,35 @@ module _ (settled : List Step → Type 0) (c : Config) (n : Counts) where
   -- what comes of a call is what comes of the whole boot
   comes_then : (program : List ℕ) (at : Stage) (caller : Caller) (call : Call) (before last : List Step) (a : Told) → ComesTo settled c n program at caller call before → At program at caller call last a → BootWent (before ++ last) a
   unfolding CallWent
-  comes_then program _ _ _ _ last a (to_whoami learned address fetch h fetched) went =
+  comes_then program _ _ _ _ last a (to_whoami learned address fetch h named fetched) went =
       let next = fetched_then (boot_fetch c n.boots learned) n.next_xid (beyond settled address) program fetch last a fetched went in
       subst (λ (l : List Step). BootWent l a) (sym (append_assoc address fetch last)) (learned_then learned address (fetch ++ last) a h next)
   comes_then program _ _ _ _ last a (to_getfile caller call before own from client domain router to h) went =
       subst (λ (l : List Step). BootWent l a) (sym (append_assoc before own last))
-      (comes_then program stage.Whoami caller call before (own ++ last) a to (record { outcome = told (Ok (says.Whoami from client domain router)); own = own; rest = last; cut = refl; ended = h.ends; follows = went }))
+      (comes_then program stage.Whoami caller call before (own ++ last) a to (record { outcome = told (Ok (says.Whoami from client domain router)); own = own; rest = last; cut = refl; ended = h.told.ends; follows = went }))
   comes_then program _ _ _ _ last a (to_getport caller call before own from server ip path to h) went =
       subst (λ (l : List Step). BootWent l a) (sym (append_assoc before own last))
-      (comes_then program stage.Getfile caller call before (own ++ last) a to (record { outcome = told (Ok (says.Getfile from server ip path)); own = own; rest = last; cut = refl; ended = h.ends; follows = went }))
+      (comes_then program stage.Getfile caller call before (own ++ last) a to (record { outcome = told (Ok (says.Getfile from server ip path)); own = own; rest = last; cut = refl; ended = h.told.ends; follows = went }))
 
   -- the call of a step is given up, floods or is refused
   call_vain : (program : List ℕ) (at : Stage) (caller : Caller) (call : Call) (before last : List Step) (still : List Step → Type 0) → ComesTo settled c n program at caller call before → CallTimedOut still caller call last → At program at caller call last (BootTimeout at)
   unfolding CallWent
-  call_vain program _ _ _ _ last still (to_whoami learned address fetch h fetched) t = vain_here still (caller_after (boot_fetch c n.boots learned) n.next_xid) (whoami_call learned.address) stage.Whoami (NameNext program (caller_after (boot_fetch c n.boots learned) n.next_xid)) last t
+  call_vain program _ _ _ _ last still (to_whoami learned address fetch h named fetched) t = vain_here still (caller_after (boot_fetch c n.boots learned) n.next_xid) (whoami_call learned.address) stage.Whoami (NameNext program (caller_after (boot_fetch c n.boots learned) n.next_xid)) last t
   call_vain program _ _ _ _ last still (to_getfile caller call before own from client domain router to h) t = vain_here still (after_call caller) (getfile_call from client (codes "root")) stage.Getfile (FileNext program (after_call caller)) last t
   call_vain program _ _ _ _ last still (to_getport caller call before own from server ip path to h) t = vain_here still (after_call caller) (getport_call ip) stage.Getport (PortNext program) last t
 
   call_full : (program : List ℕ) (at : Stage) (caller : Caller) (call : Call) (before last : List Step) (still : List Step → Type 0) → ComesTo settled c n program at caller call before → CallFlooded still caller call last → At program at caller call last (BootFlood at)
   unfolding CallWent
-  call_full program _ _ _ _ last still (to_whoami learned address fetch h fetched) t = full_here still (caller_after (boot_fetch c n.boots learned) n.next_xid) (whoami_call learned.address) stage.Whoami (NameNext program (caller_after (boot_fetch c n.boots learned) n.next_xid)) last t
+  call_full program _ _ _ _ last still (to_whoami learned address fetch h named fetched) t = full_here still (caller_after (boot_fetch c n.boots learned) n.next_xid) (whoami_call learned.address) stage.Whoami (NameNext program (caller_after (boot_fetch c n.boots learned) n.next_xid)) last t
   call_full program _ _ _ _ last still (to_getfile caller call before own from client domain router to h) t = full_here still (after_call caller) (getfile_call from client (codes "root")) stage.Getfile (FileNext program (after_call caller)) last t
   call_full program _ _ _ _ last still (to_getport caller call before own from server ip path to h) t = full_here still (after_call caller) (getport_call ip) stage.Getport (PortNext program) last t
 
-  call_denied : (program : List ℕ) (at : Stage) (code : ℕ) (caller : Caller) (call : Call) (before last : List Step) (still : List Step → Type 0) → ComesTo settled c n program at caller call before → CallTold (Err code) still caller call last
+  call_denied : (program : List ℕ) (at : Stage) (code : ℕ) (caller : Caller) (call : Call) (before last : List Step) (still : List Step → Type 0) → ComesTo settled c n program at caller call before → ServerTold c (Err code) still caller call last
       → At program at caller call last (BootDenied at code)
   unfolding CallWent
-  call_denied program _ code _ _ _ last still (to_whoami learned address fetch h fetched) t = denied_here still (caller_after (boot_fetch c n.boots learned) n.next_xid) (whoami_call learned.address) stage.Whoami (NameNext program (caller_after (boot_fetch c n.boots learned) n.next_xid)) code last (BootDenied stage.Whoami code) t refl
-  call_denied program _ code _ _ _ last still (to_getfile caller call before own from client domain router to h) t = denied_here still (after_call caller) (getfile_call from client (codes "root")) stage.Getfile (FileNext program (after_call caller)) code last (BootDenied stage.Getfile code) t refl
-  call_denied program _ code _ _ _ last still (to_getport caller call before own from server ip path to h) t = denied_here still (after_call caller) (getport_call ip) stage.Getport (PortNext program) code last (BootDenied stage.Getport code) t refl
+  call_denied program _ code _ _ _ last still (to_whoami learned address fetch h named fetched) t = denied_here still (caller_after (boot_fetch c n.boots learned) n.next_xid) (whoami_call learned.address) stage.Whoami (NameNext program (caller_after (boot_fetch c n.boots learned) n.next_xid)) code last (BootDenied stage.Whoami code) t.told refl
+  call_denied program _ code _ _ _ last still (to_getfile caller call before own from client domain router to h) t = denied_here still (after_call caller) (getfile_call from client (codes "root")) stage.Getfile (FileNext program (after_call caller)) code last (BootDenied stage.Getfile code) t.told refl
+  call_denied program _ code _ _ _ last still (to_getport caller call before own from server ip path to h) t = denied_here still (after_call caller) (getport_call ip) stage.Getport (PortNext program) code last (BootDenied stage.Getport code) t.told refl
 
   some_port : (program : List ℕ) (port : ℕ) → 0 < port → BootUnbuilt stage.Mnt program ≡ ends_at program port
   unfolding ends_at
@@ -327,56 +327,104 @@ module _ (settled : List Step → Type 0) (c : Config) (n : Counts) where
       (all.0, subst (λ (l : List Step). FetchWent (boot_fetch c n.boots learned) n.next_xid all.0 (fresh learned.responder) l a) (sym cut) all.1)
 
   -- each row of the table
-  boot_went : (a : Told) (part : List Step) → Cause settled c n command.Boot a part → BootWent part a
+  boot_went : (a : Told) (part : List Step) → faults_told a ≡ 0 → Cause settled c n command.Boot a part → BootWent part a
   unfolding BootWent ends_at
-  boot_went _ part (boot_unbuilt program port _ some h) =
-      of_call program stage.Getport _ part _ h (port_here (beyond settled h.before) h.caller h.call program port h.last _ h.came_of (some_port program port some))
-  boot_went _ part (boot_timeout_rarp _ t) = record { outcome = timed_out; own = part; rest = []; cut = sym (append-nil part); ended = (is_vain settled (rarp_request c.client.mac) (rarp_hearing c.client.mac) c.tries c.wait part t, refl); follows = refl }
-  boot_went _ part (boot_timeout_tftp _ h) =
+  boot_went _ part calm (boot_unbuilt program port _ some h) =
+      of_call program stage.Getport _ part _ h (port_here (beyond settled h.before) h.caller h.call program port h.last _ h.came_of.told (some_port program port some))
+  boot_went _ part calm (boot_timeout_rarp _ t) = record { outcome = timed_out; own = part; rest = []; cut = sym (append-nil part); ended = (is_vain settled (rarp_request c.client.mac) (rarp_hearing c.client.mac) c.tries c.wait part t, refl); follows = refl }
+  boot_went _ part calm (boot_timeout_tftp _ h) =
       of_fetch FetchTimedOut part _ h (λ still learned last t. whole_fetch learned still last _ t.before t.last t.taken t.takes t.cut (fetch_vain (boot_fetch c n.boots learned) n.next_xid (beyond still t.before) t.taken t.last t.stopped))
-  boot_went _ part (boot_timeout_call program at _ h) = of_call program at _ part _ h (call_vain program at h.caller h.call h.before h.last (beyond settled h.before) h.to h.came_of)
-  boot_went _ part (boot_flood_rarp _ t) = record { outcome = flooded; own = part; rest = []; cut = sym (append-nil part); ended = (is_full settled (rarp_request c.client.mac) (rarp_hearing c.client.mac) c.tries c.wait part t, refl); follows = refl }
-  boot_went _ part (boot_flood_tftp _ h) =
+  boot_went _ part calm (boot_timeout_call program at _ h) = of_call program at _ part _ h (call_vain program at h.caller h.call h.before h.last (beyond settled h.before) h.to h.came_of)
+  boot_went _ part calm (boot_flood_rarp _ t) = record { outcome = flooded; own = part; rest = []; cut = sym (append-nil part); ended = (is_full settled (rarp_request c.client.mac) (rarp_hearing c.client.mac) c.tries c.wait part t, refl); follows = refl }
+  boot_went _ part calm (boot_flood_tftp _ h) =
       of_fetch FetchFlooded part _ h (λ still learned last t. whole_fetch learned still last _ t.before t.last t.taken t.takes t.cut (fetch_full (boot_fetch c n.boots learned) n.next_xid (beyond still t.before) t.taken t.last t.stopped))
-  boot_went _ part (boot_flood_call program at _ h) = of_call program at _ part _ h (call_full program at h.caller h.call h.before h.last (beyond settled h.before) h.to h.came_of)
-  boot_went _ part (boot_denied program at code _ h) = of_call program at _ part _ h (call_denied program at code h.caller h.call h.before h.last (beyond settled h.before) h.to h.came_of)
-  boot_went _ part (boot_refused code _ h) =
+  boot_went _ part calm (boot_flood_call program at _ h) = of_call program at _ part _ h (call_full program at h.caller h.call h.before h.last (beyond settled h.before) h.to h.came_of)
+  boot_went _ part calm (boot_denied program at code _ h) = of_call program at _ part _ h (call_denied program at code h.caller h.call h.before h.last (beyond settled h.before) h.to h.came_of)
+  boot_went _ part calm (boot_refused code _ h) =
       of_fetch (FetchRefused code) part _ h
       (λ still learned last t. whole_fetch learned still last _ t.before t.last t.taken t.takes t.cut (brought (boot_fetch c n.boots learned) n.next_xid (beyond still t.before) t.taken t.stopped.0 (step.Refused code) t.last _ t.stopped.1 t.stopped.2 refl))
-  boot_went _ part (boot_no_port program _ h) = of_call program stage.Getport _ part _ h (port_here (beyond settled h.before) h.caller h.call program 0 h.last _ h.came_of refl)
-  boot_went _ part (boot_too_large size _ h) =
+  boot_went _ part calm (boot_no_port program _ h) = of_call program stage.Getport _ part _ h (port_here (beyond settled h.before) h.caller h.call program 0 h.last _ h.came_of.told refl)
+  boot_went _ part calm (boot_too_large size _ h) =
       of_fetch (FetchTooLarge size) part _ h
       (λ still learned last t. whole_fetch learned still last _ t.before t.last t.taken t.takes t.cut (brought (boot_fetch c n.boots learned) n.next_xid (beyond still t.before) t.taken t.stopped.0 (step.Over size) t.last _ t.stopped.1 t.stopped.2 refl))
+  boot_went _ part calm (boot_linkfault step _ h) = absurd cc
 
   -- ---- the other commands
 
   abbrev AddrNext : Learned → List Step → Told → Type 0
   AddrNext learned rest a = a ≡ AddrOk learned.address
 
-  addr_went : (a : Told) (part : List Step) → Cause settled c n command.Addr a part → Went (rarp_request c.client.mac) (rarp_hearing c.client.mac) c.tries AddrTimeout (AddrFlood stage.Rarp) AddrNext part a
-  addr_went _ part (addr_ok learned _ h) = record { outcome = told learned; own = part; rest = []; cut = sym (append-nil part); ended = h.ends; follows = refl }
-  addr_went _ part (addr_timeout _ t) = record { outcome = timed_out; own = part; rest = []; cut = sym (append-nil part); ended = (is_vain settled (rarp_request c.client.mac) (rarp_hearing c.client.mac) c.tries c.wait part t, refl); follows = refl }
-  addr_went _ part (addr_flood _ t) = record { outcome = flooded; own = part; rest = []; cut = sym (append-nil part); ended = (is_full settled (rarp_request c.client.mac) (rarp_hearing c.client.mac) c.tries c.wait part t, refl); follows = refl }
+  addr_went : (a : Told) (part : List Step) → faults_told a ≡ 0 → Cause settled c n command.Addr a part → Went (rarp_request c.client.mac) (rarp_hearing c.client.mac) c.tries AddrTimeout (AddrFlood stage.Rarp) AddrNext part a
+  addr_went _ part calm (addr_ok learned _ h) = record { outcome = told learned; own = part; rest = []; cut = sym (append-nil part); ended = h.ends; follows = refl }
+  addr_went _ part calm (addr_timeout _ t) = record { outcome = timed_out; own = part; rest = []; cut = sym (append-nil part); ended = (is_vain settled (rarp_request c.client.mac) (rarp_hearing c.client.mac) c.tries c.wait part t, refl); follows = refl }
+  addr_went _ part calm (addr_flood _ t) = record { outcome = flooded; own = part; rest = []; cut = sym (append-nil part); ended = (is_full settled (rarp_request c.client.mac) (rarp_hearing c.client.mac) c.tries c.wait part t, refl); follows = refl }
+  addr_went _ part calm (addr_linkfault _ h) = absurd cc
 
-  addr_one : (a b : Told) (part : List Step) → Cause settled c n command.Addr a part → Cause settled c n command.Addr b part → a ≡ b
-  addr_one a b part h k =
-      went_one (rarp_request c.client.mac) (rarp_hearing c.client.mac) c.tries AddrTimeout (AddrFlood stage.Rarp) AddrNext AddrNext (λ learned rest a b f g. f ∙ sym g) part a b (addr_went a part h) (addr_went b part k)
+  addr_one : (a b : Told) (part : List Step) → faults_told a ≡ 0 → faults_told b ≡ 0 → Cause settled c n command.Addr a part → Cause settled c n command.Addr b part → a ≡ b
+  addr_one a b part x y h k =
+      went_one (rarp_request c.client.mac) (rarp_hearing c.client.mac) c.tries AddrTimeout (AddrFlood stage.Rarp) AddrNext AddrNext (λ learned rest a b f g. f ∙ sym g) part a b (addr_went a part x h) (addr_went b part y k)
 
   -- a pause that wasn't flooded is no pause that was
-  after_ok : (ticks : ℕ) (b : Told) (part : List Step) → length (got_in part) < flood_limit → Cause settled c n (command.Wait ticks) b part → WaitOk ticks ≡ b
-  after_ok _ _ part calm (wait_ok ticks _ h) = refl
-  after_ok _ _ part calm (wait_flood ticks _ h) = absurd (omega (arith, calm, h.many))
+  after_ok : (ticks : ℕ) (b : Told) (part : List Step) → length (got_in part) < flood_limit → faults_told b ≡ 0 → Cause settled c n (command.Wait ticks) b part → WaitOk ticks ≡ b
+  after_ok _ _ part calm none (wait_ok ticks _ h) = refl
+  after_ok _ _ part calm none (wait_flood ticks _ h) = absurd (omega (arith, calm, h.many))
+  after_ok _ _ part calm none (wait_linkfault ticks _ h) = absurd cc
 
-  after_flood : (ticks : ℕ) (b : Told) (part : List Step) → length (got_in part) ≡ flood_limit → Cause settled c n (command.Wait ticks) b part → WaitFlood ticks ≡ b
-  after_flood _ _ part many (wait_ok ticks _ h) = absurd (omega (arith, many, h.calm))
-  after_flood _ _ part many (wait_flood ticks _ h) = refl
+  after_flood : (ticks : ℕ) (b : Told) (part : List Step) → length (got_in part) ≡ flood_limit → faults_told b ≡ 0 → Cause settled c n (command.Wait ticks) b part → WaitFlood ticks ≡ b
+  after_flood _ _ part many none (wait_ok ticks _ h) = absurd (omega (arith, many, h.calm))
+  after_flood _ _ part many none (wait_flood ticks _ h) = refl
+  after_flood _ _ part many none (wait_linkfault ticks _ h) = absurd cc
 
-  wait_one : (ticks : ℕ) (a b : Told) (part : List Step) → Cause settled c n (command.Wait ticks) a part → Cause settled c n (command.Wait ticks) b part → a ≡ b
-  wait_one _ _ b part (wait_ok ticks _ h) k = after_ok ticks b part h.calm k
-  wait_one _ _ b part (wait_flood ticks _ h) k = after_flood ticks b part h.many k
+  wait_one : (ticks : ℕ) (a b : Told) (part : List Step) → faults_told a ≡ 0 → faults_told b ≡ 0 → Cause settled c n (command.Wait ticks) a part → Cause settled c n (command.Wait ticks) b part → a ≡ b
+  wait_one _ _ b part x y (wait_ok ticks _ h) k = after_ok ticks b part h.calm y k
+  wait_one _ _ b part x y (wait_flood ticks _ h) k = after_flood ticks b part h.many y k
+  wait_one _ _ b part x y (wait_linkfault ticks _ h) k = absurd cc
+
+-- ---- faults of the link
+
+-- the link failed, or it didn't
+fault_or : (a : Told) → (faults_told a ≡ 0) ⊎ (faults_told a ≡ 1)
+fault_or AddrLinkFault = inr refl
+fault_or BootLinkFault = inr refl
+fault_or (WaitLinkFault ticks) = inr refl
+fault_or a = inl refl
+
+-- a command has one such answer
+abbrev fault_of : Command → Told
+fault_of command.Addr = AddrLinkFault
+fault_of command.Boot = BootLinkFault
+fault_of (command.Wait ticks) = WaitLinkFault ticks
+
+one_fault : (settled : List Step → Type 0) (c : Config) (n : Counts) (k : Command) (a : Told) (part : List Step) → faults_told a ≡ 1 → Cause settled c n k a part → a ≡ fault_of k
+one_fault settled c n _ _ part one (addr_ok learned _ h) = absurd cc
+one_fault settled c n _ _ part one (addr_timeout _ h) = absurd cc
+one_fault settled c n _ _ part one (addr_flood _ h) = absurd cc
+one_fault settled c n _ _ part one (boot_unbuilt program port _ some h) = absurd cc
+one_fault settled c n _ _ part one (boot_timeout_rarp _ h) = absurd cc
+one_fault settled c n _ _ part one (boot_timeout_tftp _ h) = absurd cc
+one_fault settled c n _ _ part one (boot_timeout_call program step _ h) = absurd cc
+one_fault settled c n _ _ part one (boot_flood_rarp _ h) = absurd cc
+one_fault settled c n _ _ part one (boot_flood_tftp _ h) = absurd cc
+one_fault settled c n _ _ part one (boot_flood_call program step _ h) = absurd cc
+one_fault settled c n _ _ part one (boot_denied program step code _ h) = absurd cc
+one_fault settled c n _ _ part one (boot_refused code _ h) = absurd cc
+one_fault settled c n _ _ part one (boot_no_port program _ h) = absurd cc
+one_fault settled c n _ _ part one (boot_too_large size _ h) = absurd cc
+one_fault settled c n _ _ part one (wait_ok ticks _ h) = absurd cc
+one_fault settled c n _ _ part one (wait_flood ticks _ h) = absurd cc
+one_fault settled c n _ _ part one (addr_linkfault _ h) = refl
+one_fault settled c n _ _ part one (boot_linkfault step _ h) = refl
+one_fault settled c n _ _ part one (wait_linkfault ticks _ h) = refl
+
+-- where the link didn't fail
+calm_one : (settled : List Step → Type 0) (c : Config) (n : Counts) (k : Command) (a b : Told) (part : List Step) → faults_told a ≡ 0 → faults_told b ≡ 0 → Cause settled c n k a part → Cause settled c n k b part → a ≡ b
+calm_one settled c n command.Addr a b part x y f g = addr_one settled c n a b part x y f g
+calm_one settled c n command.Boot a b part x y f g = boot_one settled c n part a b (boot_went settled c n a part x f) (boot_went settled c n b part y g)
+calm_one settled c n (command.Wait ticks) a b part x y f g = wait_one settled c n ticks a b part x y f g
+
+by_faults : (settled : List Step → Type 0) (c : Config) (n : Counts) (k : Command) (a b : Told) (part : List Step) → (faults_told a ≡ 0) ⊎ (faults_told a ≡ 1) → IsCaused settled c n k a part → IsCaused settled c n k b part → a ≡ b
+by_faults settled c n k a b part (inl none) f g = calm_one settled c n k a b part none (sym g.fails ∙ f.fails ∙ none) f.cause g.cause
+by_faults settled c n k a b part (inr one) f g = one_fault settled c n k a part one f.cause ∙ sym (one_fault settled c n k b part (sym g.fails ∙ f.fails ∙ one) g.cause)
 
 pub has_one_answer : HasOneAnswer
-has_one_answer h n command.Addr a b part f g = addr_one (IsSettledBy h) h.config n a b part f.cause g.cause
-has_one_answer h n command.Boot a b part f g =
-    boot_one (IsSettledBy h) h.config n part a b (boot_went (IsSettledBy h) h.config n a part f.cause) (boot_went (IsSettledBy h) h.config n b part g.cause)
-has_one_answer h n (command.Wait ticks) a b part f g = wait_one (IsSettledBy h) h.config n ticks a b part f.cause g.cause
+has_one_answer h n k a b part f g = by_faults (IsSettledBy h) h.config n k a b part (fault_or a) f g

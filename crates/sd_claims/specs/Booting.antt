@@ -1,17 +1,19 @@
 -- The steps of a boot, in order: RARP, TFTP from the responder, WHOAMI, GETFILE of the root, and GETPORT of MOUNT.
-use Rattle.std.specs.Prelude.{◌≡◌, ℕ, ◌+◌, ◌-◌, ◌^◌, ◌%◌, List, [], ◌++◌, codes, Ok}
+use Rattle.std.specs.Prelude.{◌≡◌, ℕ, ◌+◌, ◌-◌, ◌^◌, ◌%◌, List, [], ◌∷◌, ◌++◌, codes, Ok}
 use Rattle.sd_outside.specs.declared.packet.Addr.{Addr}
+use Rattle.sd_outside.specs.declared.packet.Packet.TheVariants.{Udp}
 use Rattle.sd_config.specs.declared.config.Config.{Config}
+use Rattle.sd_config.specs.Config.{IsConfig}
 use Rattle.sd_config.specs.declared.stage.Stage.{Stage}
 use Rattle.sd_config.specs.declared.stage.Stage.TheVariants.{Whoami, Getfile, Getport}
 use Rattle.sd_config.specs.Program.{program_name}
-use Rattle.sd_link.specs.Steps.{Step}
-use Rattle.sd_link.specs.Tries.{beyond, Answered, Flooded, TimedOut}
+use Rattle.sd_link.specs.Steps.{Step, Get}
+use Rattle.sd_link.specs.Tries.{beyond, Answered, Flooded, TimedOut, Failed}
 use Rattle.sd_rpc_retry.specs.declared.calling.Ask.{Ask}
 use Rattle.sd_rpc_retry.specs.declared.calling.Ask.TheVariants as asks
 use Rattle.sd_rpc_retry.specs.declared.calling.Answer.TheVariants as answers
 use Rattle.sd_rpc_retry.specs.declared.calling.Caller.{Caller}
-use Rattle.sd_services.specs.RpcReply.{pmap_port}
+use Rattle.sd_portmap.specs.Layout.{pmap_port}
 use Rattle.sd_rpc_retry.specs.Calling.{Verdict, request, hearing_of}
 use Rattle.sd_claims.specs.Rarp.{Learned, rarp_request, rarp_hearing}
 use Rattle.sd_claims.specs.Fetching.{Fetch, Fetched}
@@ -23,6 +25,22 @@ pub record Counts : Type 0 where
 
 abbrev pub first_counts : Counts
 first_counts = record { boots = 0; next_xid = 1 }
+
+-- ---- who replied
+
+-- this is the server's address; a configuration that breaks its rules may have a server whose replies tell another
+abbrev pub IsServerIp : Config → ℕ → Type 0
+IsServerIp c ip = IsConfig c → ip ≡ c.server.ip
+
+-- the last step gets a datagram from the server's address
+pub record EndsFromServer (c : Config) (part : List Step) : Type 0 where
+  pub before : List Step
+  pub id : ℕ
+  pub src : Addr
+  pub dst : Addr
+  pub body : List ℕ
+  pub cut : part ≡ before ++ Get id (Udp src dst body) ∷ []
+  pub from : IsServerIp c src.ip
 
 -- ---- the address and the program
 
@@ -44,12 +62,14 @@ boot_fetch c boots learned = record {
   wait = c.wait;
 }
 
--- the address was told, and then this came of the fetch
+-- The address was told by a reply that named the server, and then this came of the fetch. A receiver takes blocks and ERRORs from the
+-- address alone that is asked.
 pub record OfFetch (settled : List Step → Type 0) (c : Config) (n : Counts) (came : (List Step → Type 0) → Fetch → List Step → Type 0) (part : List Step) : Type 0 where
   pub learned : Learned
   pub address : List Step
   pub last : List Step
   pub told : LearnsAddress settled c learned address
+  pub named : IsServerIp c learned.responder
   pub came_of : came (beyond settled address) (boot_fetch c n.boots learned) last
   pub cut : part ≡ address ++ last
 
@@ -73,6 +93,11 @@ after_call caller = record caller { next_xid = caller.next_xid + 1 }
 abbrev pub CallTold : Verdict → (List Step → Type 0) → Caller → Call → List Step → Type 0
 CallTold verdict settled caller call = Answered settled (request caller call.dst call.ask) (hearing_of caller call.dst call.ask) caller.tries caller.wait verdict
 
+-- and the reply came from the server
+pub record ServerTold (c : Config) (verdict : Verdict) (settled : List Step → Type 0) (caller : Caller) (call : Call) (part : List Step) : Type 0 where
+  pub told : CallTold verdict settled caller call part
+  pub from_server : EndsFromServer c part
+
 -- all tries waited in vain
 abbrev pub CallTimedOut : (List Step → Type 0) → Caller → Call → List Step → Type 0
 CallTimedOut settled caller call = TimedOut settled (request caller call.dst call.ask) (hearing_of caller call.dst call.ask) caller.tries caller.wait
@@ -80,6 +105,10 @@ CallTimedOut settled caller call = TimedOut settled (request caller call.dst cal
 -- the last try got a flood
 abbrev pub CallFlooded : (List Step → Type 0) → Caller → Call → List Step → Type 0
 CallFlooded settled caller call = Flooded settled (request caller call.dst call.ask) (hearing_of caller call.dst call.ask) caller.tries caller.wait
+
+-- the network failed in one of the tries
+abbrev pub CallFailed : (List Step → Type 0) → Caller → Call → List Step → Type 0
+CallFailed settled caller call = Failed settled (request caller call.dst call.ask) (hearing_of caller call.dst call.ask) caller.tries caller.wait
 
 -- ---- the calls of a boot
 
@@ -99,17 +128,17 @@ getfile_call from client key = record { dst = portmapper from; ask = asks.Getfil
 abbrev pub getport_call : ℕ → Call
 getport_call server = record { dst = portmapper server; ask = asks.Getport 100005 1 }
 
--- The boot came to the call of a step by this part: its program was fetched, and the calls before were answered. Each answer
--- says whom the next call asks, and what.
+-- The boot came to the call of a step by this part: its program was fetched from the server, and the calls before were answered by
+-- the server. Each answer says whom the next call asks, and what.
 pub data ComesTo (settled : List Step → Type 0) (c : Config) (n : Counts) (program : List ℕ) : Stage → Caller → Call → List Step → Type 0 where
-  to_whoami : (learned : Learned) (address fetch : List Step) → LearnsAddress settled c learned address
+  to_whoami : (learned : Learned) (address fetch : List Step) → LearnsAddress settled c learned address → IsServerIp c learned.responder
       → Fetched (beyond settled address) (boot_fetch c n.boots learned) program fetch
       → ComesTo settled c n program Whoami (caller_after (boot_fetch c n.boots learned) n.next_xid) (whoami_call learned.address) (address ++ fetch)
   to_getfile : (caller : Caller) (call : Call) (before last : List Step) (from : ℕ) (client domain : List ℕ) (router : ℕ) → ComesTo settled c n program Whoami caller call before
-      → CallTold (Ok (answers.Whoami from client domain router)) (beyond settled before) caller call last
+      → ServerTold c (Ok (answers.Whoami from client domain router)) (beyond settled before) caller call last
       → ComesTo settled c n program Getfile (after_call caller) (getfile_call from client (codes "root")) (before ++ last)
   to_getport : (caller : Caller) (call : Call) (before last : List Step) (from : ℕ) (server : List ℕ) (ip : ℕ) (path : List ℕ) → ComesTo settled c n program Getfile caller call before
-      → CallTold (Ok (answers.Getfile from server ip path)) (beyond settled before) caller call last
+      → ServerTold c (Ok (answers.Getfile from server ip path)) (beyond settled before) caller call last
       → ComesTo settled c n program Getport (after_call caller) (getport_call ip) (before ++ last)
 
 -- the boot came to the call of a step, and then this came of the call

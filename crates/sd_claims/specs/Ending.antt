@@ -18,7 +18,7 @@ Ends c fates w entries AddrTimeout part = AllGot c fates w entries → SendsSett
 Ends c fates w entries (AddrFlood step) part = AllGot c fates w entries → SendsSettled c fates w entries part
 -- a pause that wasn't cut short ends where nothing waits
 Ends c fates w entries (WaitOk shown) part = Settles c fates w entries part
--- of a boot its causes say which tries end where nothing waits
+-- of the others nothing is said here: the causes of a boot say which tries end where nothing waits
 Ends c fates w entries answer part = Unit {0}
 
 -- the same, of a command after this history

@@ -1,5 +1,5 @@
 -- How a client fetches a file by TFTP (RFC 1350).
-use Rattle.std.specs.Prelude.{◌≡◌, ℕ, ◌==◌, ◌&&◌, List, [], ◌∷◌, ◌++◌, length, codes, Option, Some, None, Result, Ok, Err, true, false, if◌then◌else◌}
+use Rattle.std.specs.Prelude.{◌≡◌, ◌⊎◌, ℕ, ◌==◌, ◌&&◌, List, [], ◌∷◌, ◌++◌, length, codes, Option, Some, None, Result, Ok, Err, true, false, if◌then◌else◌}
 use Rattle.std.specs.List.{concat}
 use Rattle.sd_outside.specs.declared.packet.Addr.{Addr}
 use Rattle.sd_outside.specs.declared.packet.Packet.{Packet}
@@ -9,13 +9,12 @@ use Rattle.sd_tftp.specs.declared.packet.TftpPacket.TheVariants.{Rrq, Ack, Error
 use Rattle.sd_tftp.specs.declared.packet.TftpError.{TftpError}
 use Rattle.sd_tftp.specs.declared.step.Step.TheVariants as step
 use Rattle.sd_tftp.specs.declared.step.Step as answers
-use Rattle.sd_tftp.specs.Grammar.{packet_bytes}
+use Rattle.sd_tftp.specs.Grammar.{packet_bytes, tftp_port}
 use Rattle.sd_tftp.specs.Reading.{reading}
 use Rattle.sd_tftp.specs.Reception.{Reception, fresh}
 use Rattle.sd_tftp.specs.ReceiverTurn.{Turn, turn, ignored}
-use Rattle.sd_services.specs.Sessions.{tftp_port}
 use Rattle.sd_link.specs.Steps.{Step, Send}
-use Rattle.sd_link.specs.Tries.{Hearing, beyond, Answered, Flooded, TimedOut}
+use Rattle.sd_link.specs.Tries.{Hearing, beyond, Answered, Flooded, TimedOut, Failed, FailsToSend}
 
 -- what is fetched: by which address and port, from which address, under which name, and how patiently
 pub record Fetch : Type 0 where
@@ -128,6 +127,22 @@ FetchTimedOut settled f = Stops settled f (λ still r last. TimedOut still (requ
 -- a try got a flood
 abbrev pub FetchFlooded : (List Step → Type 0) → Fetch → List Step → Type 0
 FetchFlooded settled f = Stops settled f (λ still r last. Flooded still (request_of f r) (fetch_hearing f.me r) f.tries f.wait last)
+
+-- the last block came, and its ACK couldn't be sent
+pub record FailsToFinish (settled : List Step → Type 0) (f : Fetch) (r : Reception) (part : List Step) : Type 0 where
+  pub block : List Step
+  pub failed : List Step
+  pub final : Turn
+  pub to : Addr
+  pub number : ℕ
+  pub brings : Brings settled f r final block
+  pub says : final.says ≡ step.Took to number true
+  pub fails : FailsToSend (acknowledge f.me to number) failed
+  pub cut : part ≡ block ++ failed
+
+-- the network failed within the tries of a request, or at the ACK of the last block
+abbrev pub FetchFailed : (List Step → Type 0) → Fetch → List Step → Type 0
+FetchFailed settled f = Stops settled f (λ still r last. Failed still (request_of f r) (fetch_hearing f.me r) f.tries f.wait last ⊎ FailsToFinish still f r last)
 
 -- an ERROR with this code came
 abbrev pub FetchRefused : ℕ → (List Step → Type 0) → Fetch → List Step → Type 0

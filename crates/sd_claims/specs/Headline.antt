@@ -1,10 +1,12 @@
 -- What `replay` writes.
-use Rattle.std.specs.Prelude.{◌≡◌, ◌≢◌, ◌⊎◌, ◌≤◌, ◌*◌, ℕ, List, [], ◌∷◌, ◌++◌, map, take, codes, Option, Some, None}
+use Rattle.std.specs.Prelude.{◌≡◌, ◌≢◌, ◌⊎◌, ◌≤◌, ◌*◌, ℕ, List, [], ◌∷◌, ◌++◌, map, take, codes}
 use Rattle.std.specs.List.{AllByRecursion}
 use Rattle.std.specs.Fmt.{decimal}
-use Rattle.sd_outside.specs.Streams.{Gains}
 use Rattle.sd_link.specs.World.{start}
+use Rattle.sd_link.specs.Steps.{Step}
+use Rattle.sd_config.specs.declared.events.Events.{Events}
 use Rattle.sd_config.specs.Events.{fates_of}
+use Rattle.sd_config.specs.Plan.{plan_of}
 use Rattle.sd_link.specs.Lawful.{IsLawful, EndsAtRest, IsFrontOf, Settles}
 use Rattle.sd_config.specs.declared.command.Command.{Command}
 use Rattle.sd_config.specs.declared.command.Command.TheVariants.{Boot}
@@ -17,9 +19,14 @@ use Rattle.sd_claims.specs.Machine.{first_state, IsRun}
 use Rattle.sd_claims.specs.Transcript.{Done, transcript, AllCaused}
 use Rattle.sd_claims.specs.Session.{parts_of}
 
--- the network loses, delays and repeats nothing, the client waits at least two ticks for its address, and it doesn't boot
+-- no event line: the network loses, delays and repeats nothing, no stranger sends, and nothing fails
+pub record HasNoEvents (events : Events) : Type 0 where
+  pub fates : events.fates ≡ []
+  pub strangers : events.strangers ≡ []
+
+-- there is no event line, the client waits at least two ticks for its address, and it doesn't boot
 pub record IsCalm (s : Script) : Type 0 where
-  pub plain : s.events.fates ≡ []
+  pub quiet : HasNoEvents s.events
   pub no_boot : AllByRecursion (λ command. command ≢ Boot) s.commands
   pub patient : 2 ≤ s.config.tries * s.config.wait
 
@@ -29,11 +36,12 @@ IsOk (AddrOk ip) = Unit {0}
 IsOk (WaitOk shown) = Unit {0}
 IsOk answer = ⊥
 
--- These commands of the script were done so: the run is one that the network owes the script, from the start on, and it ends where
--- the server has done all that was due to it; the answers are those of the boot machine; each is earned or caused by its part; and in a calm script all are ok.
-pub record AreDone (s : Script) (commands : List Command) (done : List Done) : Type 0 where
-  pub lawful : IsLawful s.config (fates_of s.events) (parts_of done)
-  pub rests : EndsAtRest s.config (fates_of s.events) (parts_of done)
+-- These commands of the script were done so: their steps, and more steps where it was cut short, are a run that the network owes the
+-- script, from the start on. After theirs the server has done all that was due to it, and strangers have sent all that they send. The
+-- answers are those of the boot machine; each is earned or caused by its part; and in a calm script all are ok.
+pub record AreDone (s : Script) (commands : List Command) (done : List Done) (more : List Step) : Type 0 where
+  pub lawful : IsLawful s.config (plan_of s.events) (parts_of done ++ more)
+  pub rests : EndsAtRest s.config (plan_of s.events) (parts_of done)
   pub machine : IsRun s.config first_state commands (map (λ d. d.answer) done)
   pub caused : AllCaused (Settles s.config (fates_of s.events) (start s.config) []) s.config first_counts commands done
   pub complete : IsCalm s → AllByRecursion (λ d. IsOk d.answer) done
@@ -44,14 +52,15 @@ written s done = transcript s.config (start s.config) done
 -- the whole transcript of a script
 pub record Plays (s : Script) (out : List ℕ) : Type 0 where
   pub done : List Done
-  pub all : AreDone s s.commands done
+  pub all : AreDone s s.commands done []
   pub whole : out ≡ written s done
 
 -- a prefix of a transcript of its first so many commands
 pub record PlaysFront (s : Script) (out : List ℕ) : Type 0 where
   pub count : ℕ
   pub done : List Done
-  pub some : AreDone s (take count s.commands) done
+  pub more : List Step
+  pub some : AreDone s (take count s.commands) done more
   pub front : IsFrontOf out (written s done)
 
 -- the whole transcript of the script that the text spells
@@ -84,8 +93,3 @@ pub record IsCutRefusal (text out : List ℕ) : Type 0 where
 -- a prefix of what would have been written; no bytes are a prefix of both
 abbrev pub IsFront : List ℕ → List ℕ → Type 0
 IsFront text out = (out ≡ []) ⊎ IsCutShort text out ⊎ IsCutRefusal text out
-
--- Where the source tells the text, the sink gained bytes of which P holds.
-abbrev pub Writes : Option (List ℕ) → Option (List ℕ) → Option (List ℕ) → (List ℕ → List ℕ → Type 0) → Type 0
-Writes None old new P = Unit {0}
-Writes (Some text) old new P = (out : List ℕ) × Gains old new out × P text out

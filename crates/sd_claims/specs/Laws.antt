@@ -5,10 +5,10 @@ use Rattle.sd_outside.specs.declared.packet.Packet.{Packet}
 use Rattle.sd_config.specs.declared.config.Config.{Config}
 use Rattle.sd_config.specs.declared.stage.Stage.{Stage}
 use Rattle.sd_config.specs.Program.{program_name, program_of}
-use Rattle.sd_link.specs.Steps.{Step, History}
+use Rattle.sd_link.specs.Steps.{Step, Fail, History}
 use Rattle.sd_link.specs.Link.{IsSettledBy}
 use Rattle.sd_link.specs.Tries.{beyond}
-use Rattle.sd_link.specs.Parts.{sends_in, got_in, ticks_in}
+use Rattle.sd_link.specs.Parts.{sends_in, got_in, ticks_in, fails_in}
 use Rattle.sd_config.specs.declared.command.Command.{Command}
 use Rattle.sd_config.specs.declared.command.Command.TheVariants.{Addr, Boot, Wait}
 use Rattle.sd_config.specs.declared.told.Told.{Told}
@@ -16,8 +16,8 @@ use Rattle.sd_config.specs.declared.told.Told.TheVariants.{AddrOk, AddrLinkFault
 use Rattle.sd_claims.specs.Machine.{State, Answers}
 use Rattle.sd_claims.specs.Rarp.{learned_from, Learned}
 use Rattle.sd_claims.specs.Fetching.{Fetch, Fetched, FetchTimedOut, FetchFlooded, FetchRefused, FetchTooLarge}
-use Rattle.sd_claims.specs.Booting.{Counts, fetch_port, OfFetch}
-use Rattle.sd_claims.specs.Causes.{IsCaused, AddressTimedOut, AddressFlooded, counts_after}
+use Rattle.sd_claims.specs.Booting.{Counts, IsServerIp, fetch_port, OfFetch}
+use Rattle.sd_claims.specs.Causes.{IsCaused, AddressTimedOut, AddressFlooded, counts_after, faults_told}
 
 -- ---- what is shown is what was configured
 
@@ -42,7 +42,7 @@ pub record WasTold (mac : Mac) (ip : ℕ) (part : List Step) : Type 0 where
 abbrev pub AddressWasTold : Type 0
 AddressWasTold = (h : History) (n : Counts) (ip : ℕ) (part : List Step) → IsCaused (IsSettledBy h) h.config n Addr (AddrOk ip) part → WasTold h.config.client.mac ip part
 
--- a fetch of the client's boot program, in the part, gave these bytes
+-- a fetch of the client's boot program from the server, in the part, gave these bytes
 pub record WasFetched (h : History) (n : Counts) (program : List ℕ) (part : List Step) : Type 0 where
   pub fetch : Fetch
   pub before : List Step
@@ -52,6 +52,7 @@ pub record WasFetched (h : History) (n : Counts) (program : List ℕ) (part : Li
   pub fetched : Fetched (beyond (IsSettledBy h) before) fetch program within
   pub name : fetch.name ≡ program_name h.config.arch fetch.me.ip
   pub port : fetch.me.port ≡ fetch_port n.boots
+  pub server : IsServerIp h.config fetch.server
 
 abbrev pub ProgramWasFetched : Type 0
 ProgramWasFetched = (h : History) (n : Counts) (step : Stage) (program : List ℕ) (part : List Step) → IsCaused (IsSettledBy h) h.config n Boot (BootUnbuilt step program) part → WasFetched h n program part
@@ -69,9 +70,23 @@ HasOneAnswer = (h : History) (n : Counts) (command : Command) (first second : To
 
 -- ---- faults
 
+-- Where the network fails, a fault is answered.
+abbrev pub FaultIsTold : Type 0
+FaultIsTold = (h : History) (n : Counts) (command : Command) (answer : Told) (part : List Step) → fails_in part ≢ 0 → IsCaused (IsSettledBy h) h.config n command answer part → faults_told answer ≡ 1
+
+-- a failure of the network ends the part, which has no other
+pub record EndsWithFail (part : List Step) : Type 0 where
+  pub before : List Step
+  pub calm : fails_in before ≡ 0
+  pub cut : part ≡ before ++ Fail ∷ []
+
+-- And the failure ends the command.
+abbrev pub FaultIsLast : Type 0
+FaultIsLast = (h : History) (n : Counts) (command : Command) (answer : Told) (part : List Step) → fails_in part ≢ 0 → IsCaused (IsSettledBy h) h.config n command answer part → EndsWithFail part
+
 -- No fault of the network has a cause where the network doesn't fail.
 abbrev pub NoFaultIsCaused : Type 0
-NoFaultIsCaused = (h : History) (n : Counts) (command : Command) (ticks : ℕ) (part : List Step)
+NoFaultIsCaused = (h : History) (n : Counts) (command : Command) (ticks : ℕ) (part : List Step) → fails_in part ≡ 0
     → (IsCaused (IsSettledBy h) h.config n command AddrLinkFault part → ⊥)
     × (IsCaused (IsSettledBy h) h.config n command BootLinkFault part → ⊥)
     × (IsCaused (IsSettledBy h) h.config n command (WaitLinkFault ticks) part → ⊥)
@@ -82,17 +97,17 @@ NoFaultIsCaused = (h : History) (n : Counts) (command : Command) (ticks : ℕ) (
 abbrev pub NoAddress : (List Step → Type 0) → Config → List Step → Type 0
 NoAddress settled c part = AddressTimedOut settled c part ⊎ AddressFlooded settled c part
 
--- A boot that isn't counted came no further than RARP.
+-- Where it doesn't fail, a boot that isn't counted came no further than RARP.
 abbrev pub UncountedBoot : Type 0
-UncountedBoot = (h : History) (n : Counts) (answer : Told) (part : List Step) → IsCaused (IsSettledBy h) h.config n Boot answer part → (counts_after n answer).boots ≡ n.boots → NoAddress (IsSettledBy h) h.config part
+UncountedBoot = (h : History) (n : Counts) (answer : Told) (part : List Step) → fails_in part ≡ 0 → IsCaused (IsSettledBy h) h.config n Boot answer part → (counts_after n answer).boots ≡ n.boots → NoAddress (IsSettledBy h) h.config part
 
 -- no program came
 abbrev pub NoProgram : (List Step → Type 0) → Fetch → List Step → Type 0
 NoProgram settled f part = FetchTimedOut settled f part ⊎ FetchFlooded settled f part ⊎ ((code : ℕ) × FetchRefused code settled f part) ⊎ ((size : ℕ) × FetchTooLarge size settled f part)
 
--- A boot after which the next call has the same number came no further than TFTP.
+-- And one after which the next call has the same number came no further than TFTP.
 abbrev pub UncountedCalls : Type 0
-UncountedCalls = (h : History) (n : Counts) (answer : Told) (part : List Step) → IsCaused (IsSettledBy h) h.config n Boot answer part → (counts_after n answer).next_xid ≡ n.next_xid
+UncountedCalls = (h : History) (n : Counts) (answer : Told) (part : List Step) → fails_in part ≡ 0 → IsCaused (IsSettledBy h) h.config n Boot answer part → (counts_after n answer).next_xid ≡ n.next_xid
     → NoAddress (IsSettledBy h) h.config part ⊎ OfFetch (IsSettledBy h) h.config n NoProgram part
 
 -- Of 32,768 boots in a row each fetches from a port of its own.

@@ -3,9 +3,11 @@ pub mod Rarp
 pub mod Fetching
 pub mod Booting
 pub mod Waiting
+pub mod AnyLink
 pub mod Causes
 pub mod Transcript
 pub mod Ending
 pub mod Session
+pub mod Wrote
 pub mod Headline
 pub mod Laws

@@ -1,7 +1,7 @@
 -- The boot machine: what a diskless client's commands may be answered. It has no packet, no tick and no retry.
 use Rattle.std.specs.Prelude.{◌≡◌, ℕ, List, [], ◌∷◌, Some, Bool, false}
 use Rattle.sd_config.specs.declared.config.Config.{Config}
-use Rattle.sd_config.specs.declared.stage.Stage.TheVariants.{Mnt}
+use Rattle.sd_config.specs.declared.stage.Stage.TheVariants.{Rarp, Mnt}
 use Rattle.sd_config.specs.Program.{program_of}
 use Rattle.sd_config.specs.declared.command.Command.{Command}
 use Rattle.sd_config.specs.declared.command.Command.TheVariants.{Addr, Boot, Wait}
@@ -20,7 +20,7 @@ first_state = record { up = false; pages = [] }
 abbrev pub IsAddrAnswer : Config → Told → Type 0
 IsAddrAnswer c (AddrOk ip) = ip ≡ c.client.ip
 IsAddrAnswer c AddrTimeout = Unit {0}
-IsAddrAnswer c (AddrFlood step) = Unit {0}
+IsAddrAnswer c (AddrFlood step) = step ≡ Rarp
 IsAddrAnswer c AddrLinkFault = Unit {0}
 IsAddrAnswer c answer = ⊥
 

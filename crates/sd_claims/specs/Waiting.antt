@@ -1,6 +1,6 @@
 -- A client that lets time pass, and drops what comes.
-use Rattle.std.specs.Prelude.{◌≡◌, ℕ, ◌<◌, ◌≤◌, List, [], length}
-use Rattle.sd_link.specs.Steps.{Step}
+use Rattle.std.specs.Prelude.{◌≡◌, ℕ, ◌<◌, ◌≤◌, List, [], ◌∷◌, ◌++◌, length}
+use Rattle.sd_link.specs.Steps.{Step, Fail}
 use Rattle.sd_link.specs.Parts.{sends_in, got_in, ticks_in}
 use Rattle.sd_link.specs.Tries.{flood_limit}
 
@@ -16,3 +16,11 @@ pub record WaitFlooded (ticks : ℕ) (part : List Step) : Type 0 where
   pub silent : sends_in part ≡ []
   pub passed : ticks_in part ≤ ticks
   pub many : length (got_in part) ≡ flood_limit
+
+-- the network failed first, by the last step
+pub record WaitFailed (ticks : ℕ) (part : List Step) : Type 0 where
+  pub before : List Step
+  pub silent : sends_in part ≡ []
+  pub passed : ticks_in part ≤ ticks
+  pub few : length (got_in part) < flood_limit
+  pub cut : part ≡ before ++ Fail ∷ []

@@ -1,6 +1,6 @@
 //! What holds of the claims, each on a function that does nothing: the contract is the law.
 
-ghost use Rattle.sd_claims.specs.Laws.{AddressIsConfigured, ProgramIsConfigured, AddressWasTold, ProgramWasFetched, WaitPassed, HasOneAnswer, NoFaultIsCaused, UncountedBoot, UncountedCalls, PortsDiffer};
+ghost use Rattle.sd_claims.specs.Laws.{AddressIsConfigured, ProgramIsConfigured, AddressWasTold, ProgramWasFetched, WaitPassed, HasOneAnswer, FaultIsTold, FaultIsLast, NoFaultIsCaused, UncountedBoot, UncountedCalls, PortsDiffer};
 
 /// What the boot machine shows is what was configured.
 pub fn shows_what_is_configured()
@@ -20,9 +20,11 @@ pub fn has_one_answer()
     ensures { HasOneAnswer }
 {}
 
-/// No fault of the network has a cause where the network doesn't fail.
+/// A fault of the network is answered exactly where the network failed, and the failure is the last that happened in the command.
 pub fn no_fault_is_caused()
-    ensures { NoFaultIsCaused }
+    ensures calm { NoFaultIsCaused }
+    ensures told { FaultIsTold }
+    ensures last { FaultIsLast }
 {}
 
 /// A boot that isn't counted came no further than RARP, and one whose calls aren't counted no further than TFTP.

@@ -34,10 +34,6 @@ IsArch arch = (arch ≡ []) ⊎ IsName arch
 abbrev pub IsWithin : ℕ → ℕ → ℕ → Type 0
 IsWithin low high n = (low ≤ n) × (n ≤ high)
 
--- the all-ones address, to which everyone listens
-abbrev pub broadcast_ip : ℕ
-broadcast_ip = 0xffff_ffff
-
 pub record IsMachine (m : Machine) : Type 0 where
   pub mac : IsMac m.mac
   pub ip : IsWithin 1 0xffff_fffe m.ip

@@ -4,7 +4,6 @@ ghost use Rattle.sd_config.specs.Config.{IsConfig, IsFor, IsClientConfig};
 
 use sd_bootparams::Hosts;
 use sd_outside::{ByteList, ListOf, Mac, NoMemory};
-use std::alloc::Global;
 
 /// One of the two machines.
 #[derive(Debug, Drop)]

@@ -1,6 +1,6 @@
 //! What a script's event lines say of the network.
 
-use sd_outside::ListOf;
+use sd_outside::{Addr, ByteList, ListOf};
 
 /// A list of ticks or of numbers of ticks.
 pub type TickList = ListOf<u64>;
@@ -17,9 +17,25 @@ pub struct Fate {
 /// A list of fates. The first with a packet's id counts.
 pub type FateList = ListOf<Fate>;
 
+/// A datagram that a stranger sends at this tick, from 1 on, under its own address.
+#[derive(Debug, Drop)]
+pub struct Stranger {
+    pub tick: u64,
+    /// Neither end's address, and not the portmapper's port.
+    pub src: Addr,
+    pub dst: Addr,
+    /// At most 9,216 bytes.
+    pub body: ByteList,
+}
+
+/// Datagrams of strangers.
+pub type StrangerList = ListOf<Stranger>;
+
 /// What the event lines say.
 #[derive(Debug, Drop)]
 pub struct Events {
     /// The fates of packets. A packet without one is delivered once, one tick after it was sent.
     pub fates: FateList,
+    /// What strangers send, in the order of the lines.
+    pub strangers: StrangerList,
 }

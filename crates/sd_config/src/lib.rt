@@ -6,6 +6,7 @@
 
 mod command;
 mod config;
+mod copying;
 mod events;
 mod stage;
 mod told;
@@ -14,6 +15,6 @@ pub use command::{Command, CommandList};
 pub use config::{
     BootFile, BootFileList, ClientConfig, Config, Machine, RootItem, RootItemList, SwapLine,
 };
-pub use events::{Events, Fate, FateList, TickList};
+pub use events::{Events, Fate, FateList, Stranger, StrangerList, TickList};
 pub use stage::Stage;
 pub use told::Told;

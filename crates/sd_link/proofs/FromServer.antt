@@ -22,14 +22,16 @@ use Rattle.sd_config.specs.Config.{IsConfig}
 use Rattle.sd_link.specs.World.{World, Flying, Server, start}
 use Rattle.sd_services.specs.Part.{Session}
 use Rattle.sd_services.specs.Sessions.{present_block}
+use Rattle.sd_nfs_msg.specs.Layout.{nfs_port}
 use Rattle.sd_services.specs.RpcReply.{is_rpc_port}
 use Rattle.sd_services.specs.Reply.{rarp_answer, as_frame}
 use Rattle.sd_link.specs.Steps.{Step, run, AllAllowed}
 use Rattle.sd_link.specs.Parts.{sends_in, got_in}
+use Rattle.sd_link.specs.Requests.{IsRpcPort}
 use Rattle.sd_services.proofs.NoRequests.{block_asks_not, error_asks_not}
-use Rattle.sd_services.proofs.RpcSilence.{rpc_port_is, all_replies}
-use Rattle.sd_link.proofs.InFlight.{IsTftpPort, Rules, AllAsk, SentFine, FlyingFine, Keeps, keeps_run, keeps_got}
-use Rattle.sd_config.proofs.Lists.{all_always, all_at}
+use Rattle.sd_services.proofs.RpcSilence.{rpc_port_is, all_replies, all_failures}
+use Rattle.sd_link.proofs.InFlight.{IsTftpPort, Rules, AllAsk, SentFine, FlyingFine, GotFine, Keeps, keeps_run, keeps_got}
+use Rattle.sd_config.proofs.Lists.{all_always, all_at, all_weaker}
 
 -- the frame tells the client its address and the server's
 pub record TellsAddresses (c : Config) (bytes : List ℕ) : Type 0 where
@@ -46,6 +48,18 @@ pub record IsServersDatagram (c : Config) (src : Addr) (body : List ℕ) : Type 
 abbrev pub IsServers : Config → Packet → Type 0
 IsServers c (Frame bytes) = TellsAddresses c bytes
 IsServers c (Udp src dst body) = IsServersDatagram c src body
+
+-- What comes to the client: frames of the server, and from the server's address its datagrams.
+abbrev pub ComesToClient : Config → Packet → Type 0
+ComesToClient c (Frame bytes) = TellsAddresses c bytes
+ComesToClient c (Udp src dst body) = src.ip ≡ c.server.ip → IsServersDatagram c src body
+
+-- a stranger sends no frame, and from another address
+pub comes_to_client : (c : Config) (packet : Packet) → GotFine c (IsServers c) packet → ComesToClient c packet
+comes_to_client c (Frame bytes) (inl servers) = servers
+comes_to_client c (Frame bytes) (inr strangers) = absurd strangers
+comes_to_client c (Udp src dst body) (inl servers) = λ ip. servers
+comes_to_client c (Udp src dst body) (inr strangers) = λ ip. absurd (strangers.not_server ip)
 
 -- anything
 abbrev pub AnyPacket : Packet → Type 0
@@ -89,13 +103,20 @@ module _ (c : Config) (is : IsConfig c) where
 
   no_tftp : (port : ℕ) → is_rpc_port port ≡ true → IsTftpPort port → ⊥
   no_tftp port e (inl tftp) = let no : is_rpc_port 69 ≡ true = subst (λ (n : ℕ). is_rpc_port n ≡ true) tftp e in absurd (cc)
-  no_tftp port e (inr session) = elim (rpc_port_is port e) [ inl a ↦ absurd (omega (arith, a, session.0)) | inr a ↦ absurd (omega (arith, a, session.0)) ]
+  no_tftp port e (inr session) = off (rpc_port_is port e)
+    where
+      off : IsRpcPort port → ⊥
+      off (inl a) = omega (arith, a, session.0)
+      off (inr (inl a)) = omega (arith, a, session.0)
+      off (inr (inr (inl a))) = omega (arith, a, session.0)
+      off (inr (inr (inr a))) = omega (arith, a, session.0)
 
   pub server_rules : Rules c (IsServers c) AnySession AnyRequest AnyCall
   server_rules = record {
     frames = λ bytes. answer_tells bytes (reading bytes) refl;
     errors = λ port to code is lt. record { ip = refl; port = inl is; no_request = λ _. error_asks_not code [] };
-    replies = λ from port body rpc o. all_replies (IsServers c) c from port body (λ sent. record { ip = refl; port = inr rpc; no_request = λ tftp. absurd (no_tftp port rpc tftp) });
+    replies = λ part from port body rpc o. all_replies (IsServers c) c part from port body (λ sent. record { ip = refl; port = inr rpc; no_request = λ tftp. absurd (no_tftp port rpc tftp) });
+    failures = λ from body o. all_failures (IsServers c) c from body (λ sent. record { ip = refl; port = inr refl; no_request = λ tftp. absurd (no_tftp nfs_port refl tftp) });
     blocks = λ s h. record { ip = refl; port = inl (inr (omega arith, omega arith)); no_request = λ _. block_asks_not s.block (present_block c s) };
     first = λ part tick from name bytes r is. tt;
     again = λ tick s h. tt;
@@ -107,14 +128,17 @@ module _ (c : Config) (is : IsConfig c) where
 
   module _ (S : Packet → Type 0) where
     -- Where the client's packets are such, the server's are so too.
-    pub servers_run : (w : World) (steps : List Step) → Keeps S (IsServers c) AnySession w → AllByRecursion S (sends_in steps) → Keeps S (IsServers c) AnySession (run c w steps)
-    servers_run w steps h s = keeps_run c (IsServers c) AnySession AnyRequest AnyCall server_rules S w steps h s (any_asks (run c w steps))
+    pub servers_run : (w : World) (steps : List Step) → Keeps c S (IsServers c) AnySession w → AllByRecursion S (sends_in steps) → AllAllowed c w steps → Keeps c S (IsServers c) AnySession (run c w steps)
+    servers_run w steps h s all = keeps_run c (IsServers c) AnySession AnyRequest AnyCall server_rules S w steps h s (any_asks (run c w steps)) all
 
-    pub servers_got : (w : World) (steps : List Step) → Keeps S (IsServers c) AnySession w → AllByRecursion S (sends_in steps) → AllAllowed c w steps → AllByRecursion (IsServers c) (got_in steps)
-    servers_got w steps h s all = keeps_got c (IsServers c) AnySession AnyRequest AnyCall server_rules S w steps h s (any_asks (run c w steps)) all
+    -- What the client gets from the server's address is the server's.
+    pub servers_got : (w : World) (steps : List Step) → Keeps c S (IsServers c) AnySession w → AllByRecursion S (sends_in steps) → AllAllowed c w steps → AllByRecursion (ComesToClient c) (got_in steps)
+    servers_got w steps h s all =
+        all_weaker (GotFine c (IsServers c)) (ComesToClient c) (got_in steps) (comes_to_client c)
+        (keeps_got c (IsServers c) AnySession AnyRequest AnyCall server_rules S w steps h s (any_asks (run c w steps)) all)
 
   -- Every packet of the server in flight is one that it sends.
-  pub sent_by_server : (steps : List Step) (id : ℕ) (f : Flying) → slice_get (run c (start c) steps).flight id ≡ Some f → f.from ≡ Server → IsServers c f.packet
-  sent_by_server steps id f at from =
-      let k = servers_run AnyPacket (start c) steps (tt, tt) (all_always AnyPacket (sends_in steps) (λ p. tt)) in
-      subst (λ s. SentFine AnyPacket (IsServers c) s f.packet) from (all_at (FlyingFine AnyPacket (IsServers c)) (run c (start c) steps).flight id f k.0 at)
+  pub sent_by_server : (steps : List Step) (id : ℕ) (f : Flying) → AllAllowed c (start c) steps → slice_get (run c (start c) steps).flight id ≡ Some f → f.from ≡ Server → IsServers c f.packet
+  sent_by_server steps id f all at from =
+      let k = servers_run AnyPacket (start c) steps (tt, tt) (all_always AnyPacket (sends_in steps) (λ p. tt)) all in
+      subst (λ s. SentFine c AnyPacket (IsServers c) s f.packet) from (all_at (FlyingFine c AnyPacket (IsServers c)) (run c (start c) steps).flight id f k.0 at)

@@ -1,17 +1,18 @@
 -- Steps one after another, and histories that go on.
-use Rattle.std.proofs.Common.{◌≡◌, ℕ, ◌+◌, ◌≤◌, List, [], ◌∷◌, ◌++◌, Option, Some, None, slice_get, refl, sym, ◌∙◌, ap, subst, arith, append_assoc}
+use Rattle.std.proofs.Common.{◌≡◌, ℕ, ◌+◌, ◌≤◌, Bool, List, [], ◌∷◌, ◌++◌, Option, Some, None, slice_get, refl, sym, ◌∙◌, ap, subst, arith, append_assoc}
 use Rattle.std.proofs.lemmas.List.{append-nil}
 use Rattle.sd_outside.specs.declared.packet.Packet.{Packet}
 use Rattle.sd_config.specs.declared.config.Config.{Config}
 use Rattle.sd_link.specs.World.{World, Flying, start}
 use Rattle.sd_services.specs.Part.{Session}
-use Rattle.sd_link.specs.Steps.{Step, Tick, Send, Serve, Data, End, Get, Entry, after, entries_of, run, AllAllowed, record_of, served, resent, History, world_of, whole_record, IsLawfulSoFar}
+use Rattle.sd_link.specs.Steps.{Step, Tick, Send, Serve, Crash, Fault, Data, Get, Fail, Entry, after, entries_of, run, AllAllowed, record_of, served, crashed, faulted, resent, History, world_of, whole_record, IsLawfulSoFar}
 use Rattle.sd_services.specs.Sessions.{session_in}
-use Rattle.sd_link.specs.Parts.{sends_in, got_in, ticks_in}
+use Rattle.sd_link.specs.Parts.{sends_in, got_in, ticks_in, fails_in, faults_in}
 use Rattle.sd_link.specs.Link.{GoesOn, Moves, TicksBefore, NothingWaits, IsSettledBy, IsAtRest, IsAtRestBy}
 use Rattle.sd_config.specs.declared.events.Events.{Events}
 use Rattle.sd_config.specs.Events.{Fates, fates_of}
-use Rattle.sd_link.specs.Lawful.{AllInTurn, AllGot, ServerRests}
+use Rattle.sd_config.specs.Plan.{plan_of}
+use Rattle.sd_link.specs.Lawful.{AllInTurn, AllGot, Rests}
 
 -- ---- lists of steps
 
@@ -35,69 +36,68 @@ record-append c w (x ∷ xs) ys =
 
 pub sends-append : (xs ys : List Step) → sends_in (xs ++ ys) ≡ sends_in xs ++ sends_in ys
 sends-append [] ys = refl
-sends-append (Tick ∷ xs) ys = sends-append xs ys
 sends-append (Send packet ∷ xs) ys = ap (λ (l : List Packet). packet ∷ l) (sends-append xs ys)
-sends-append (Serve id ∷ xs) ys = sends-append xs ys
-sends-append (Data number ∷ xs) ys = sends-append xs ys
-sends-append (End number ∷ xs) ys = sends-append xs ys
-sends-append (Get id packet ∷ xs) ys = sends-append xs ys
+sends-append (x ∷ xs) ys = sends-append xs ys
 
 pub got-append : (xs ys : List Step) → got_in (xs ++ ys) ≡ got_in xs ++ got_in ys
 got-append [] ys = refl
-got-append (Tick ∷ xs) ys = got-append xs ys
-got-append (Send packet ∷ xs) ys = got-append xs ys
-got-append (Serve id ∷ xs) ys = got-append xs ys
-got-append (Data number ∷ xs) ys = got-append xs ys
-got-append (End number ∷ xs) ys = got-append xs ys
 got-append (Get id packet ∷ xs) ys = ap (λ (l : List Packet). packet ∷ l) (got-append xs ys)
+got-append (x ∷ xs) ys = got-append xs ys
 
 pub ticks-append : (xs ys : List Step) → ticks_in (xs ++ ys) ≡ ticks_in xs + ticks_in ys
 ticks-append [] ys = omega arith
 ticks-append (Tick ∷ xs) ys = omega (arith, ticks-append xs ys)
-ticks-append (Send packet ∷ xs) ys = ticks-append xs ys
-ticks-append (Serve id ∷ xs) ys = ticks-append xs ys
-ticks-append (Data number ∷ xs) ys = ticks-append xs ys
-ticks-append (End number ∷ xs) ys = ticks-append xs ys
-ticks-append (Get id packet ∷ xs) ys = ticks-append xs ys
+ticks-append (x ∷ xs) ys = ticks-append xs ys
 
-pub tick-served : (c : Config) (w : World) (f : Option Flying) → (served c w f).tick ≡ w.tick
+pub fails-append : (xs ys : List Step) → fails_in (xs ++ ys) ≡ fails_in xs + fails_in ys
+fails-append [] ys = omega arith
+fails-append (Fail ∷ xs) ys = omega (arith, fails-append xs ys)
+fails-append (x ∷ xs) ys = fails-append xs ys
+
+pub faults-append : (xs ys : List Step) → faults_in (xs ++ ys) ≡ faults_in xs + faults_in ys
+faults-append [] ys = omega arith
+faults-append (Fault id doubts ∷ xs) ys = omega (arith, faults-append xs ys)
+faults-append (x ∷ xs) ys = faults-append xs ys
+
+tick-served : (c : Config) (w : World) (f : Option Flying) → (served c w f).tick ≡ w.tick
 tick-served c w None = refl
 tick-served c w (Some f) = refl
 
-pub tick-resent : (c : Config) (w : World) (s : Option Session) → (resent c w s).tick ≡ w.tick
+tick-crashed : (c : Config) (done : Bool) (w : World) (f : Option Flying) → (crashed c done w f).tick ≡ w.tick
+tick-crashed c done w None = refl
+tick-crashed c done w (Some f) = refl
+
+tick-faulted : (c : Config) (doubts : Bool) (w : World) (f : Option Flying) → (faulted c doubts w f).tick ≡ w.tick
+tick-faulted c doubts w None = refl
+tick-faulted c doubts w (Some f) = refl
+
+tick-resent : (c : Config) (w : World) (s : Option Session) → (resent c w s).tick ≡ w.tick
 tick-resent c w None = refl
 tick-resent c w (Some s) = refl
+
+-- The tick grows by one with a Tick, and by nothing else. What is proved of ticks stands on this.
+pub tick-after : (c : Config) (w : World) (step : Step) → (after c w step).tick ≡ w.tick + ticks_in (step ∷ [])
+tick-after c w (Serve id) = omega (arith, tick-served c w (slice_get w.flight id))
+tick-after c w (Crash id done) = omega (arith, tick-crashed c done w (slice_get w.flight id))
+tick-after c w (Fault id doubts) = omega (arith, tick-faulted c doubts w (slice_get w.flight id))
+tick-after c w (Data number) = omega (arith, tick-resent c w (session_in number w.server.sessions))
+tick-after c w step = omega arith
 
 -- the tick grows by one with each Tick, and by nothing else
 pub tick-run : (c : Config) (w : World) (xs : List Step) → (run c w xs).tick ≡ w.tick + ticks_in xs
 tick-run c w [] = omega arith
-tick-run c w (Tick ∷ xs) = omega (arith, tick-run c (after c w Tick) xs)
-tick-run c w (Send packet ∷ xs) = tick-run c (after c w (Send packet)) xs
-tick-run c w (Serve id ∷ xs) =
-    tick-run c (after c w (Serve id)) xs ∙ ap (λ (t : ℕ). t + ticks_in xs) (tick-served c w _)
-tick-run c w (Data number ∷ xs) =
-    tick-run c (after c w (Data number)) xs ∙ ap (λ (t : ℕ). t + ticks_in xs) (tick-resent c w _)
-tick-run c w (End number ∷ xs) = tick-run c (after c w (End number)) xs
-tick-run c w (Get id packet ∷ xs) = tick-run c w xs
+tick-run c w (x ∷ xs) = omega (arith, tick-run c (after c w x) xs, tick-after c w x, ticks-append (x ∷ []) xs)
 
 pub before-append : (until : ℕ) (c : Config) (w : World) (xs ys : List Step) → TicksBefore until c w xs → TicksBefore until c (run c w xs) ys → TicksBefore until c w (xs ++ ys)
 before-append until c w [] ys first second = second
 before-append until c w (Tick ∷ xs) ys first second = (first.0, before-append until c (after c w Tick) xs ys first.1 second)
-before-append until c w (Send packet ∷ xs) ys first second = before-append until c (after c w (Send packet)) xs ys first second
-before-append until c w (Serve id ∷ xs) ys first second = before-append until c (after c w (Serve id)) xs ys first second
-before-append until c w (Data number ∷ xs) ys first second = before-append until c (after c w (Data number)) xs ys first second
-before-append until c w (End number ∷ xs) ys first second = before-append until c (after c w (End number)) xs ys first second
-before-append until c w (Get id packet ∷ xs) ys first second = before-append until c (after c w (Get id packet)) xs ys first second
+before-append until c w (x ∷ xs) ys first second = before-append until c (after c w x) xs ys first second
 
 -- ticks that all begin before a moment don't pass it
 pub before-bound : (until : ℕ) (c : Config) (w : World) (xs : List Step) → w.tick ≤ until → TicksBefore until c w xs → (run c w xs).tick ≤ until
 before-bound until c w [] le h = le
 before-bound until c w (Tick ∷ xs) le h = before-bound until c (after c w Tick) xs (omega (arith, h.0)) h.1
-before-bound until c w (Send packet ∷ xs) le h = before-bound until c (after c w (Send packet)) xs le h
-before-bound until c w (Serve id ∷ xs) le h = before-bound until c (after c w (Serve id)) xs (omega (arith, tick-served c w (slice_get w.flight id))) h
-before-bound until c w (Data number ∷ xs) le h = before-bound until c (after c w (Data number)) xs (omega (arith, tick-resent c w (session_in number w.server.sessions))) h
-before-bound until c w (End number ∷ xs) le h = before-bound until c (after c w (End number)) xs le h
-before-bound until c w (Get id packet ∷ xs) le h = before-bound until c w xs le h
+before-bound until c w (x ∷ xs) le h = before-bound until c (after c w x) xs (omega (arith, le, tick-after c w x)) h
 
 -- ---- histories
 
@@ -162,10 +162,10 @@ settled-there a b xs goes settled =
 -- the same of the server's rest
 pub rests-goes : (a b : History) (xs : List Step) → GoesOn a b xs → IsAtRest b → IsAtRestBy a xs
 rests-goes a b xs goes rests =
-    subst (λ (l : List Entry). ServerRests a.config (fates_of a.events) (run a.config (world_of a) xs) l) (record-goes a b xs goes)
-    (subst (λ (w : World). ServerRests a.config (fates_of a.events) w (whole_record b)) (world-goes a b xs goes)
-    (subst (λ (e : Events). ServerRests a.config (fates_of e) (world_of b) (whole_record b)) goes.events
-    (subst (λ (c : Config). ServerRests c (fates_of b.events) (world_of b) (whole_record b)) goes.config rests)))
+    subst (λ (l : List Entry). Rests a.config (plan_of a.events) (run a.config (world_of a) xs) l) (record-goes a b xs goes)
+    (subst (λ (w : World). Rests a.config (plan_of a.events) w (whole_record b)) (world-goes a b xs goes)
+    (subst (λ (e : Events). Rests a.config (plan_of e) (world_of b) (whole_record b)) goes.events
+    (subst (λ (c : Config). Rests c (plan_of b.events) (world_of b) (whole_record b)) goes.config rests)))
 
 -- where the server rests after a part, it rests after that part behind another
 pub rests-then : (a b : History) (xs ys : List Step) → GoesOn a b xs → IsAtRestBy b ys → IsAtRestBy a (xs ++ ys)
@@ -173,12 +173,12 @@ rests-then a b xs ys goes rests =
     let there = run a.config (world_of a) xs in
     let lines : (whole_record a ++ record_of a.config (world_of a) xs) ++ record_of a.config there ys ≡ whole_record a ++ record_of a.config (world_of a) (xs ++ ys) =
     append_assoc (whole_record a) (record_of a.config (world_of a) xs) (record_of a.config there ys) ∙ ap (λ (l : List Entry). whole_record a ++ l) (sym (record-append a.config (world_of a) xs ys)) in
-    subst (λ (l : List Entry). ServerRests a.config (fates_of a.events) (run a.config (world_of a) (xs ++ ys)) l) lines
-    (subst (λ (w : World). ServerRests a.config (fates_of a.events) w ((whole_record a ++ record_of a.config (world_of a) xs) ++ record_of a.config there ys)) (sym (run-append a.config (world_of a) xs ys))
-    (subst (λ (l : List Entry). ServerRests a.config (fates_of a.events) (run a.config there ys) (l ++ record_of a.config there ys)) (record-goes a b xs goes)
-    (subst (λ (w : World). ServerRests a.config (fates_of a.events) (run a.config w ys) (whole_record b ++ record_of a.config w ys)) (world-goes a b xs goes)
-    (subst (λ (e : Events). ServerRests a.config (fates_of e) (run a.config (world_of b) ys) (whole_record b ++ record_of a.config (world_of b) ys)) goes.events
-    (subst (λ (c : Config). ServerRests c (fates_of b.events) (run c (world_of b) ys) (whole_record b ++ record_of c (world_of b) ys)) goes.config rests)))))
+    subst (λ (l : List Entry). Rests a.config (plan_of a.events) (run a.config (world_of a) (xs ++ ys)) l) lines
+    (subst (λ (w : World). Rests a.config (plan_of a.events) w ((whole_record a ++ record_of a.config (world_of a) xs) ++ record_of a.config there ys)) (sym (run-append a.config (world_of a) xs ys))
+    (subst (λ (l : List Entry). Rests a.config (plan_of a.events) (run a.config there ys) (l ++ record_of a.config there ys)) (record-goes a b xs goes)
+    (subst (λ (w : World). Rests a.config (plan_of a.events) (run a.config w ys) (whole_record b ++ record_of a.config w ys)) (world-goes a b xs goes)
+    (subst (λ (e : Events). Rests a.config (plan_of e) (run a.config (world_of b) ys) (whole_record b ++ record_of a.config (world_of b) ys)) goes.events
+    (subst (λ (c : Config). Rests c (plan_of b.events) (run c (world_of b) ys) (whole_record b ++ record_of c (world_of b) ys)) goes.config rests)))))
 
 -- ---- what links tell
 

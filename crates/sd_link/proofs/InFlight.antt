@@ -14,15 +14,21 @@ use Rattle.sd_tftp.specs.Reading.{reading}
 use Rattle.sd_config.specs.declared.config.Config.{Config}
 use Rattle.sd_config.specs.Config.{IsWithin}
 use Rattle.sd_config.specs.Program.{boot_file}
-use Rattle.sd_config.proofs.Lists.{all_append, all_drop, all_filter, all_map, all_found, all_at}
-use Rattle.sd_link.specs.World.{World, Flying, Sender, Client, Server, sent_by}
+use Rattle.sd_link.specs.World.{World, Flying, Sender, Client, Server, Stranger, flying, sent_by}
 use Rattle.sd_services.specs.Part.{Session, ServerPart, Replied, silence}
-use Rattle.sd_services.specs.Sessions.{tftp_port, is_session_port, tftp_packet, tftp_error, block_packet, present_block, session_in, with_session, sent_again, next_block, new_session, is_octet, is_session_of, asked_for, requested, ended, acknowledged, heard, not_known, heard_by, transferred, tftp_reply}
+use Rattle.sd_tftp.specs.Grammar.{tftp_port}
+use Rattle.sd_services.specs.Sessions.{is_session_port, tftp_packet, tftp_error, block_packet, present_block, session_in, with_session, sent_again, next_block, new_session, is_octet, is_session_of, asked_for, requested, ended, acknowledged, heard, not_known, heard_by, transferred, tftp_reply}
+use Rattle.sd_nfs_msg.specs.Layout.{nfs_port}
+use Rattle.sd_services.specs.NfsCalls.{is_swap_access}
 use Rattle.sd_services.specs.RpcReply.{is_rpc_port, rpc_out, rpc_reply}
+use Rattle.sd_services.specs.Failing.{failures_to, failure_out}
 use Rattle.sd_services.specs.Reply.{rarp_out, is_heard, reply, out_of}
-use Rattle.sd_link.specs.Steps.{Step, Tick, Send, Serve, Data, End, Get, after, served, resent, run, AllAllowed, goes_to_client}
+use Rattle.sd_link.specs.Steps.{Step, Send, Stray, Serve, Crash, Fault, Data, End, Get, Allowed, after, served, crashed, faulted, resent, run, AllAllowed, goes_to_client, IsStrangers}
 use Rattle.sd_link.specs.Parts.{sends_in, got_in}
 use Rattle.sd_link.specs.Requests.{AsksOnlyFor, KeepsOffRpc}
+use Rattle.sd_config.proofs.Lists.{all_append, all_drop, all_filter, all_map, all_found, all_at, all_split}
+use Rattle.sd_services.proofs.SwapAccess.{is_to_nfs_port}
+use Rattle.sd_link.proofs.Histories.{sends-append}
 
 -- ---- lists
 
@@ -40,23 +46,32 @@ grown_not : (w : World) → Grown w w
 grown_not w = ([], sym (append-nil w.flight))
 
 grown_by : (w : World) (from : Sender) (packets : List Packet) → Grown w (sent_by from w packets)
-grown_by w from packets = (map (λ packet. record { from = from; tick = w.tick; packet = packet }) packets, refl)
+grown_by w from packets = (map (flying from w.tick) packets, refl)
 
 grown_served : (c : Config) (w : World) (f : Option Flying) → Grown w (served c w f)
 grown_served c w None = grown_not w
-grown_served c w (Some f) = (map (λ packet. record { from = Server; tick = w.tick; packet = packet }) (out_of c w.tick w.server f.packet), refl)
+grown_served c w (Some f) = (map (flying Server w.tick) (out_of c w.tick w.server f.packet), refl)
+
+grown_crashed : (c : Config) (done : Bool) (w : World) (f : Option Flying) → Grown w (crashed c done w f)
+grown_crashed c done w None = grown_not w
+grown_crashed c done w (Some f) = grown_not w
+
+grown_faulted : (c : Config) (doubts : Bool) (w : World) (f : Option Flying) → Grown w (faulted c doubts w f)
+grown_faulted c doubts w None = grown_not w
+grown_faulted c doubts w (Some f) = (map (flying Server w.tick) (failure_out c f.packet), refl)
 
 grown_resent : (c : Config) (w : World) (s : Option Session) → Grown w (resent c w s)
 grown_resent c w None = grown_not w
 grown_resent c w (Some s) = (record { from = Server; tick = w.tick; packet = block_packet c s } ∷ [], refl)
 
 grown_after : (c : Config) (w : World) (step : Step) → Grown w (after c w step)
-grown_after c w Tick = grown_not w
 grown_after c w (Send packet) = grown_by w Client (packet ∷ [])
+grown_after c w (Stray packet) = grown_by w Stranger (packet ∷ [])
 grown_after c w (Serve id) = grown_served c w (slice_get w.flight id)
+grown_after c w (Crash id done) = grown_crashed c done w (slice_get w.flight id)
+grown_after c w (Fault id doubts) = grown_faulted c doubts w (slice_get w.flight id)
 grown_after c w (Data number) = grown_resent c w (session_in number w.server.sessions)
-grown_after c w (End number) = grown_not w
-grown_after c w (Get id packet) = grown_not w
+grown_after c w step = grown_not w
 
 stays_after : (c : Config) (w : World) (step : Step) (id : ℕ) (f : Flying) → slice_get w.flight id ≡ Some f → slice_get (after c w step).flight id ≡ Some f
 stays_after c w step id f e =
@@ -87,7 +102,8 @@ IsTftpPort port = (port ≡ 69) ⊎ IsWithin 4096 8191 port
 pub record Rules (c : Config) (P : Packet → Type 0) (Q : Session → Type 0) (R : Addr → List ℕ → Type 0) (O : Addr → ℕ → List ℕ → Type 0) : Type 0 where
   pub frames : (bytes : List ℕ) → AllByRecursion P (rarp_out c bytes)
   pub errors : (port : ℕ) (to : Addr) (code : ℕ) → IsTftpPort port → code < 2 ^ 16 → P (tftp_packet c port to (Error code []))
-  pub replies : (from : Addr) (port : ℕ) (body : List ℕ) → is_rpc_port port ≡ true → O from port body → AllByRecursion P (rpc_out c from port body)
+  pub replies : (part : ServerPart) (from : Addr) (port : ℕ) (body : List ℕ) → is_rpc_port port ≡ true → O from port body → AllByRecursion P (rpc_out c part from port body)
+  pub failures : (from : Addr) (body : List ℕ) → O from nfs_port body → AllByRecursion P (failures_to c from body)
   pub blocks : (s : Session) → Q s → P (block_packet c s)
   pub first : (part : ServerPart) (tick : ℕ) (from : Addr) (name bytes : List ℕ) → R from name → boot_file c name ≡ Some bytes → Q (new_session part tick from name)
   pub again : (tick : ℕ) (s : Session) → Q s → Q (sent_again tick s)
@@ -114,17 +130,22 @@ AllAsk R O w = (id : ℕ) (f : Flying) → slice_get w.flight id ≡ Some f → 
 abbrev pub Fine : (Packet → Type 0) → (Session → Type 0) → Replied → Type 0
 Fine P Q r = AllByRecursion P r.out × AllByRecursion Q r.next.sessions
 
--- what was sent by either
-abbrev pub SentFine : (Packet → Type 0) → (Packet → Type 0) → Sender → Packet → Type 0
-SentFine S P Client packet = S packet
-SentFine S P Server packet = P packet
+-- what was sent by the client, by the server, and by a stranger
+abbrev pub SentFine : Config → (Packet → Type 0) → (Packet → Type 0) → Sender → Packet → Type 0
+SentFine c S P Client packet = S packet
+SentFine c S P Server packet = P packet
+SentFine c S P Stranger packet = IsStrangers c packet
 
-abbrev pub FlyingFine : (Packet → Type 0) → (Packet → Type 0) → Flying → Type 0
-FlyingFine S P f = SentFine S P f.from f.packet
+abbrev pub FlyingFine : Config → (Packet → Type 0) → (Packet → Type 0) → Flying → Type 0
+FlyingFine c S P f = SentFine c S P f.from f.packet
+
+-- what comes to the client is of the server or of a stranger
+abbrev pub GotFine : Config → (Packet → Type 0) → Packet → Type 0
+GotFine c P packet = P packet ⊎ IsStrangers c packet
 
 -- S holds of each packet of the client in flight, P of each of the server, and Q of each session.
-abbrev pub Keeps : (Packet → Type 0) → (Packet → Type 0) → (Session → Type 0) → World → Type 0
-Keeps S P Q w = AllByRecursion (FlyingFine S P) w.flight × AllByRecursion Q w.server.sessions
+abbrev pub Keeps : Config → (Packet → Type 0) → (Packet → Type 0) → (Session → Type 0) → World → Type 0
+Keeps c S P Q w = AllByRecursion (FlyingFine c S P) w.flight × AllByRecursion Q w.server.sessions
 
 module _ (c : Config) (P : Packet → Type 0) (Q : Session → Type 0) (R : Addr → List ℕ → Type 0) (O : Addr → ℕ → List ℕ → Type 0) (k : Rules c P Q R O) where
   erred : (part : ServerPart) (port : ℕ) (to : Addr) (code : ℕ) → IsTftpPort port → code < 2 ^ 16 → AllByRecursion Q part.sessions → Fine P Q (record { out = tftp_error c port to code; next = part })
@@ -233,7 +254,7 @@ module _ (c : Config) (P : Packet → Type 0) (Q : Session → Type 0) (R : Addr
   reply_fine tick part (Udp src dst body) a q = of (is_heard c dst)
     where
       at : (b : Bool) → is_rpc_port dst.port ≡ b → Fine P Q (cond b (rpc_reply c part src dst.port body) (tftp_reply c tick part src dst.port body))
-      at true e = (k.replies src dst.port body e (a.calls src dst body refl e), q)
+      at true e = (k.replies part src dst.port body e (a.calls src dst body refl e), q)
       at false e = tftp_fine tick part src dst.port body (λ name mode e. a.requests src dst body name mode refl e) q
 
       of : (b : Bool) → Fine P Q (cond b (cond (is_rpc_port dst.port) (rpc_reply c part src dst.port body) (tftp_reply c tick part src dst.port body)) (silence part))
@@ -242,79 +263,101 @@ module _ (c : Config) (P : Packet → Type 0) (Q : Session → Type 0) (R : Addr
 
   -- ---- steps
 
+  -- what the server answers where its disk fails
+  failed_fine : (packet : Packet) → is_swap_access c packet ≡ true → Asks R O packet → AllByRecursion P (failure_out c packet)
+  failed_fine (Frame bytes) swap a = tt
+  failed_fine (Udp src dst body) swap a =
+      let at = is_to_nfs_port c src dst body swap in
+      k.failures src body (subst (λ (n : ℕ). O src n body) at (a.calls src dst body refl (ap is_rpc_port at)))
+
   module _ (S : Packet → Type 0) where
-    flown_fine : (tick : ℕ) (packets : List Packet) → AllByRecursion P packets → AllByRecursion (FlyingFine S P) (map (λ packet. record { from = Server; tick = tick; packet = packet }) packets)
+    flown_fine : (tick : ℕ) (packets : List Packet) → AllByRecursion P packets → AllByRecursion (FlyingFine c S P) (map (flying Server tick) packets)
     flown_fine tick [] all = tt
     flown_fine tick (p ∷ ps) all = (all.0, flown_fine tick ps all.1)
 
-    keeps_served : (w : World) (id : ℕ) (o : Option Flying) → slice_get w.flight id ≡ o → AllAsk R O w → Keeps S P Q w → Keeps S P Q (served c w o)
+    keeps_served : (w : World) (id : ℕ) (o : Option Flying) → slice_get w.flight id ≡ o → AllAsk R O w → Keeps c S P Q w → Keeps c S P Q (served c w o)
     keeps_served w id None e r h = h
     keeps_served w id (Some f) e r h =
         let fine = reply_fine w.tick w.server f.packet (r id f e) h.1 in
-        (all_append (FlyingFine S P) w.flight _ h.0 (flown_fine w.tick (out_of c w.tick w.server f.packet) fine.0), fine.1)
+        (all_append (FlyingFine c S P) w.flight _ h.0 (flown_fine w.tick (out_of c w.tick w.server f.packet) fine.0), fine.1)
 
-    keeps_resent : (w : World) (number : ℕ) (o : Option Session) → session_in number w.server.sessions ≡ o → Keeps S P Q w → Keeps S P Q (resent c w o)
+    -- a server that is opened again has no session
+    keeps_crashed : (w : World) (done : Bool) (o : Option Flying) → Keeps c S P Q w → Keeps c S P Q (crashed c done w o)
+    keeps_crashed w done None h = h
+    keeps_crashed w done (Some f) h = (h.0, tt)
+
+    keeps_faulted : (w : World) (id : ℕ) (doubts : Bool) (f : Flying) → slice_get w.flight id ≡ Some f → is_swap_access c f.packet ≡ true → AllAsk R O w → Keeps c S P Q w → Keeps c S P Q (faulted c doubts w (Some f))
+    keeps_faulted w id doubts f e swap r h =
+        (all_append (FlyingFine c S P) w.flight _ h.0 (flown_fine w.tick (failure_out c f.packet) (failed_fine f.packet swap (r id f e))), h.1)
+
+    keeps_resent : (w : World) (number : ℕ) (o : Option Session) → session_in number w.server.sessions ≡ o → Keeps c S P Q w → Keeps c S P Q (resent c w o)
     keeps_resent w number None e h = h
     keeps_resent w number (Some s) e h =
         let q = all_found Q (λ r. r.number == number) w.server.sessions s h.1 e in
-        (all_append (FlyingFine S P) w.flight _ h.0 (k.blocks s q, tt), put_fine (sent_again w.tick s) w.server.sessions (k.again w.tick s q) h.1)
+        (all_append (FlyingFine c S P) w.flight _ h.0 (k.blocks s q, tt), put_fine (sent_again w.tick s) w.server.sessions (k.again w.tick s q) h.1)
 
-    keeps_sent : (w : World) (packet : Packet) → S packet → Keeps S P Q w → Keeps S P Q (after c w (Send packet))
-    keeps_sent w packet s h = (all_append (FlyingFine S P) w.flight _ h.0 (s, tt), h.1)
+    keeps_step : (w : World) (step : Step) → Keeps c S P Q w → AllByRecursion S (sends_in (step ∷ [])) → AllAsk R O w → Allowed c w step → Keeps c S P Q (after c w step)
+    keeps_step w (Send packet) h s r ok = (all_append (FlyingFine c S P) w.flight _ h.0 (s.0, tt), h.1)
+    keeps_step w (Stray packet) h s r ok = (all_append (FlyingFine c S P) w.flight _ h.0 (ok, tt), h.1)
+    keeps_step w (Serve id) h s r ok = keeps_served w id (slice_get w.flight id) refl r h
+    keeps_step w (Crash id done) h s r ok = keeps_crashed w done (slice_get w.flight id) h
+    keeps_step w (Fault id doubts) h s r ok =
+        subst (λ (o : Option Flying). Keeps c S P Q (faulted c doubts w o)) (sym ok.1.sent) (keeps_faulted w id doubts ok.0 ok.1.sent ok.3 r h)
+    keeps_step w (Data number) h s r ok = keeps_resent w number (session_in number w.server.sessions) refl h
+    keeps_step w (End number) h s r ok = (h.0, all_filter Q (λ s. not (s.number == number)) w.server.sessions h.1)
+    keeps_step w step h s r ok = h
 
-    keeps_ended : (w : World) (number : ℕ) → Keeps S P Q w → Keeps S P Q (after c w (End number))
-    keeps_ended w number h = (h.0, all_filter Q (λ s. not (s.number == number)) w.server.sessions h.1)
-
-    from_server : (from : Sender) (packet : Packet) → goes_to_client c from packet ≡ true → SentFine S P from packet → P packet
-    from_server Client packet goes h = absurd (cc)
-    from_server Server packet goes h = h
+    -- what comes to the client
+    comes : (from : Sender) (packet : Packet) → goes_to_client c from packet ≡ true → SentFine c S P from packet → GotFine c P packet
+    comes Client packet goes h = absurd (cc)
+    comes Server packet goes h = inl h
+    comes Stranger packet goes h = inr h
 
     -- K holds of a world and of the steps to come. It tells what the packets in flight ask, and holds further on.
     record Knows (K : World → List Step → Type 0) : Type 0 where
-      known : (w : World) (steps : List Step) → K w steps → Keeps S P Q w → AllAsk R O w
+      known : (w : World) (steps : List Step) → K w steps → Keeps c S P Q w → AllAsk R O w
       onward : (w : World) (step : Step) (steps : List Step) → K w (step ∷ steps) → K (after c w step) steps
 
-    module _ (K : World → List Step → Type 0) (n : Knows K) where
-      keeps_on : (w : World) (steps : List Step) → Keeps S P Q w → AllByRecursion S (sends_in steps) → K w steps → Keeps S P Q (run c w steps)
-      keeps_on w [] h s r = h
-      keeps_on w (Tick ∷ steps) h s r = keeps_on (after c w Tick) steps h s (n.onward w Tick steps r)
-      keeps_on w (Send packet ∷ steps) h s r = keeps_on (after c w (Send packet)) steps (keeps_sent w packet s.0 h) s.1 (n.onward w (Send packet) steps r)
-      keeps_on w (Serve id ∷ steps) h s r = keeps_on (after c w (Serve id)) steps (keeps_served w id (slice_get w.flight id) refl (n.known w (Serve id ∷ steps) r h) h) s (n.onward w (Serve id) steps r)
-      keeps_on w (Data number ∷ steps) h s r = keeps_on (after c w (Data number)) steps (keeps_resent w number (session_in number w.server.sessions) refl h) s (n.onward w (Data number) steps r)
-      keeps_on w (End number ∷ steps) h s r = keeps_on (after c w (End number)) steps (keeps_ended w number h) s (n.onward w (End number) steps r)
-      keeps_on w (Get id packet ∷ steps) h s r = keeps_on w steps h s (n.onward w (Get id packet) steps r)
+    -- what is sent in a step and then
+    sent_apart : (step : Step) (steps : List Step) → AllByRecursion S (sends_in (step ∷ steps)) → AllByRecursion S (sends_in (step ∷ [])) × AllByRecursion S (sends_in steps)
+    sent_apart step steps s = all_split S (sends_in (step ∷ [])) (sends_in steps) (subst (AllByRecursion S) (sends-append (step ∷ []) steps) s)
 
-      got_on : (w : World) (steps : List Step) → Keeps S P Q w → AllByRecursion S (sends_in steps) → K w steps → AllAllowed c w steps → AllByRecursion P (got_in steps)
+    module _ (K : World → List Step → Type 0) (n : Knows K) where
+      keeps_on : (w : World) (steps : List Step) → Keeps c S P Q w → AllByRecursion S (sends_in steps) → K w steps → AllAllowed c w steps → Keeps c S P Q (run c w steps)
+      keeps_on w [] h s r all = h
+      keeps_on w (step ∷ steps) h s r all =
+          let sent = sent_apart step steps s in
+          keeps_on (after c w step) steps (keeps_step w step h sent.0 (n.known w (step ∷ steps) r h) all.0) sent.1 (n.onward w step steps r) all.1
+
+      got_on : (w : World) (steps : List Step) → Keeps c S P Q w → AllByRecursion S (sends_in steps) → K w steps → AllAllowed c w steps → AllByRecursion (GotFine c P) (got_in steps)
       got_on w [] h s r all = tt
-      got_on w (Tick ∷ steps) h s r all = got_on (after c w Tick) steps h s (n.onward w Tick steps r) all.1
-      got_on w (Send packet ∷ steps) h s r all = got_on (after c w (Send packet)) steps (keeps_sent w packet s.0 h) s.1 (n.onward w (Send packet) steps r) all.1
-      got_on w (Serve id ∷ steps) h s r all = got_on (after c w (Serve id)) steps (keeps_served w id (slice_get w.flight id) refl (n.known w (Serve id ∷ steps) r h) h) s (n.onward w (Serve id) steps r) all.1
-      got_on w (Data number ∷ steps) h s r all = got_on (after c w (Data number)) steps (keeps_resent w number (session_in number w.server.sessions) refl h) s (n.onward w (Data number) steps r) all.1
-      got_on w (End number ∷ steps) h s r all = got_on (after c w (End number)) steps (keeps_ended w number h) s (n.onward w (End number) steps r) all.1
       got_on w (Get id packet ∷ steps) h s r all =
           let a = all.0 in
           let f = a.0 in
-          (subst P a.3 (from_server f.from f.packet a.2 (all_at (FlyingFine S P) w.flight id f h.0 a.1.sent)), got_on w steps h s (n.onward w (Get id packet) steps r) all.1)
+          (subst (GotFine c P) a.3 (comes f.from f.packet a.2 (all_at (FlyingFine c S P) w.flight id f h.0 a.1.sent)), got_on w steps h s (n.onward w (Get id packet) steps r) all.1)
+      got_on w (step ∷ steps) h s r all =
+          let sent = sent_apart step steps s in
+          got_on (after c w step) steps (keeps_step w step h sent.0 (n.known w (step ∷ steps) r h) all.0) sent.1 (n.onward w step steps r) all.1
 
     -- what is asked until the steps' end
     by_end : Knows (λ w steps. AllAsk R O (run c w steps))
     by_end = record { known = λ w steps r h id f e. r id f (stays_in_flight c w steps id f e); onward = λ w step steps r. r }
 
     -- It holds after steps in which the client sends such packets.
-    pub keeps_run : (w : World) (steps : List Step) → Keeps S P Q w → AllByRecursion S (sends_in steps) → AllAsk R O (run c w steps) → Keeps S P Q (run c w steps)
-    keeps_run w steps h s r = keeps_on (λ v more. AllAsk R O (run c v more)) by_end w steps h s r
+    pub keeps_run : (w : World) (steps : List Step) → Keeps c S P Q w → AllByRecursion S (sends_in steps) → AllAsk R O (run c w steps) → AllAllowed c w steps → Keeps c S P Q (run c w steps)
+    keeps_run w steps h s r all = keeps_on (λ v more. AllAsk R O (run c v more)) by_end w steps h s r all
 
-    -- And what the client gets in them is such.
-    pub keeps_got : (w : World) (steps : List Step) → Keeps S P Q w → AllByRecursion S (sends_in steps) → AllAsk R O (run c w steps) → AllAllowed c w steps → AllByRecursion P (got_in steps)
+    -- And what the client gets in them is such, or a stranger's.
+    pub keeps_got : (w : World) (steps : List Step) → Keeps c S P Q w → AllByRecursion S (sends_in steps) → AllAsk R O (run c w steps) → AllAllowed c w steps → AllByRecursion (GotFine c P) (got_in steps)
     keeps_got w steps h s r all = got_on (λ v more. AllAsk R O (run c v more)) by_end w steps h s r all
 
     -- The same where the packets themselves tell what they ask.
-    module _ (tells : (from : Sender) (packet : Packet) → SentFine S P from packet → Asks R O packet) where
+    module _ (tells : (from : Sender) (packet : Packet) → SentFine c S P from packet → Asks R O packet) where
       by_packets : Knows (λ w steps. Unit {0})
-      by_packets = record { known = λ w steps r h id f e. tells f.from f.packet (all_at (FlyingFine S P) w.flight id f h.0 e); onward = λ w step steps r. tt }
+      by_packets = record { known = λ w steps r h id f e. tells f.from f.packet (all_at (FlyingFine c S P) w.flight id f h.0 e); onward = λ w step steps r. tt }
 
-      pub told_run : (w : World) (steps : List Step) → Keeps S P Q w → AllByRecursion S (sends_in steps) → Keeps S P Q (run c w steps)
-      told_run w steps h s = keeps_on (λ v more. Unit {0}) by_packets w steps h s tt
+      pub told_run : (w : World) (steps : List Step) → Keeps c S P Q w → AllByRecursion S (sends_in steps) → AllAllowed c w steps → Keeps c S P Q (run c w steps)
+      told_run w steps h s all = keeps_on (λ v more. Unit {0}) by_packets w steps h s tt all
 
-      pub told_got : (w : World) (steps : List Step) → Keeps S P Q w → AllByRecursion S (sends_in steps) → AllAllowed c w steps → AllByRecursion P (got_in steps)
+      pub told_got : (w : World) (steps : List Step) → Keeps c S P Q w → AllByRecursion S (sends_in steps) → AllAllowed c w steps → AllByRecursion (GotFine c P) (got_in steps)
       told_got w steps h s all = got_on (λ v more. Unit {0}) by_packets w steps h s tt all

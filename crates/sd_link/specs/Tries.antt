@@ -1,8 +1,8 @@
 -- A request that is sent again and again until its answer comes.
-use Rattle.std.specs.Prelude.{◌≡◌, ℕ, ◌<◌, ◌≤◌, List, [], ◌∷◌, ◌++◌, length, map, Option, Some, None}
+use Rattle.std.specs.Prelude.{◌≡◌, ◌⊎◌, ℕ, ◌<◌, ◌≤◌, List, [], ◌∷◌, ◌++◌, length, map, Option, Some, None}
 use Rattle.std.specs.List.{flat_map, AllByRecursion}
 use Rattle.sd_outside.specs.declared.packet.Packet.{Packet}
-use Rattle.sd_link.specs.Steps.{Step, Send, Get}
+use Rattle.sd_link.specs.Steps.{Step, Send, Get, Fail}
 use Rattle.sd_link.specs.Parts.{sends_in, got_in, ticks_in}
 
 -- What a client makes of a packet while it waits for an answer: whether it matches, and what it sends for it at once.
@@ -93,3 +93,34 @@ pub record TimedOut {A : Type 0} (settled : List Step → Type 0) (request : Pac
   pub all : length rests ≡ tries
   pub vain : AreInVain settled request wait rests
   pub unmatched : AreUnmatched hearing.match (got_in part)
+
+-- ---- a failure of the network
+
+-- this packet couldn't be sent: the call failed after it went out, or without it
+abbrev pub FailsToSend : Packet → List Step → Type 0
+FailsToSend packet part = (part ≡ Fail ∷ []) ⊎ (part ≡ Send packet ∷ Fail ∷ [])
+
+-- The network failed while the client waited for packets, or at what it sends for one. The failure is the last step.
+pub data FailsToHear {A : Type 0} (hearing : Hearing A) : List Step → Type 0 where
+  at_wait : (rest : List Step) → RepliesAtOnce hearing.replies rest → FailsToHear hearing (rest ++ Fail ∷ [])
+  at_reply : (rest : List Step) (id : ℕ) (packet reply : Packet) (failed : List Step) → RepliesAtOnce hearing.replies rest → hearing.replies packet ≡ reply ∷ [] → FailsToSend reply failed → FailsToHear hearing (rest ++ Get id packet ∷ failed)
+
+-- The network failed in one try: at the request, or behind it.
+pub data FailsToAsk {A : Type 0} (request : Packet) (hearing : Hearing A) : List Step → Type 0 where
+  at_request : (failed : List Step) → FailsToSend request failed → FailsToAsk request hearing failed
+  behind_request : (rest : List Step) → FailsToHear hearing rest → FailsToAsk request hearing (Send request ∷ rest)
+
+-- The network failed in the last try. Those before it were in vain, and nothing that was got matched. The last waits no longer and gets
+-- no more packets than a flood.
+pub record Failed {A : Type 0} (settled : List Step → Type 0) (request : Packet) (hearing : Hearing A) (tries wait : ℕ) (part : List Step) : Type 0 where
+  pub rests : List (List Step)
+  pub before : List Step
+  pub last : List Step
+  pub is : IsTries request hearing.replies rests before
+  pub few : length rests < tries
+  pub vain : AreInVain settled request wait rests
+  pub fails : FailsToAsk request hearing last
+  pub short : ticks_in last ≤ wait
+  pub most : length (got_in last) ≤ flood_limit
+  pub unmatched : AreUnmatched hearing.match (got_in part)
+  pub cut : part ≡ before ++ last

@@ -1,12 +1,10 @@
 -- What is written is read again, as it was and not otherwise; and what is read is what is written.
 use Rattle.std.proofs.Common.{◌≡◌, ℕ, zero, suc, ◌≤◌, Bool, true, false, cond, eqb, List, [], ◌∷◌, length, Result, Ok, Err, IfOk, refl, sym, subst, arith}
 use Rattle.std.specs.Prelude.{All}
-use Rattle.sd_outside.specs.Bytes.{IsBytes}
 use Rattle.sd_xdr.specs.Kind.{whole, part, Kind, list, void, variant, place_of, number, none, bytes, ◌⊗◌, second, Value}
 use Rattle.sd_xdr.specs.Grammar.{HasSpelling, IsPlain, Reads, Answers}
-use Rattle.sd_xdr.specs.Reading.{Cursor, start, Takes}
 use Rattle.sd_xdr.specs.declared.error.MsgError.{MsgError}
-use Rattle.sd_xdr.proofs.Whole.{answers, one_value}
+use Rattle.sd_xdr.proofs.Whole.{one_value}
 use Rattle.sd_xdr.proofs.Writes.{written_is_read, one_spelling, read_has_spelling}
 use Rattle.sd_mount.specs.declared.lists.MountPair.{MountPair}
 use Rattle.sd_mount.specs.declared.lists.ExportItem.{ExportItem}
@@ -179,11 +177,6 @@ result_fits (results.Refused status) h = h.1
 result_fits (results.Mounts ms) h = h
 result_fits (results.Exports es) h = h
 
-fits_if_read : (n : ℕ) (bs : List ℕ) (answer : Result MountResult MsgError) → Answers (result_kind n) result_value bs answer → IfOk answer ResultFits
+pub fits_if_read : (n : ℕ) (bs : List ℕ) (answer : Result MountResult MsgError) → Answers (result_kind n) result_value bs answer → IfOk answer ResultFits
 fits_if_read n bs (Ok r) h = result_fits r (result_one_spelling_of n r bs h).2
 fits_if_read n bs (Err e) h = tt
-
-pub fits_if_taken : (n : ℕ) (bs : List ℕ) (old new : Cursor) (answer : Result MountResult MsgError) → IsBytes bs → old ≡ start bs
-    → Takes (result_kind n) result_value old new answer → IfOk answer ResultFits
-fits_if_taken n bs old new answer is from h =
-    fits_if_read n bs answer (answers (result_kind n) result_value bs new answer is (subst (λ (c : Cursor). Takes (result_kind n) result_value c new answer) from h))

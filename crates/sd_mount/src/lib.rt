@@ -24,6 +24,3 @@ pub use mounts::MountList;
 pub use reading::{read_mount_args, read_mount_result};
 pub use sd_outside::FHandle;
 pub use writing::{write_mount_args, write_mount_result};
-
-#[cfg(test)]
-mod tests;

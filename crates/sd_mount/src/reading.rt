@@ -8,7 +8,7 @@ ghost use Rattle.sd_mount.specs.Layout.{path_limit, dirpath, args_layout, args_k
 
 use crate::message::{MountArgs, MountResult};
 use sd_outside::{ByteList, FHandle};
-use sd_xdr::{Item, MsgError, XdrReader, read_list};
+use sd_xdr::{Body, Item, MsgError, XdrReader, read_body, read_list};
 use std::alloc::Global;
 
 fn path_of(alloc: Global, reader: &mut XdrReader) -> Result<ByteList, MsgError>
@@ -18,41 +18,40 @@ fn path_of(alloc: Global, reader: &mut XdrReader) -> Result<ByteList, MsgError>
     Ok(ByteList::from_slice(alloc, reader.opaque_var(1024)?)?)
 }
 
-#[tactic(auto, unfolding(sd_xdr::specs::Reading::reading))]
-fn args_part(alloc: Global, reader: &mut XdrReader, proc_no: u32) -> Result<MountArgs, MsgError>
-    requires { proc_no ≤ 5 }
-    ensures takes { Takes (given proc_no (args_layout proc_no)) args_value reader.old reader.new result }
-    ensures of_proc { IfOk result (λ a. proc_of a ≡ proc_no) }
-    ensures fits { IfOk result ArgsFit }
-{
-    match proc_no {
-        0 => Ok(MountArgs::Null),
-        1 => Ok(MountArgs::Mnt {
-            path: path_of(alloc, reader)?,
-        }),
-        2 => Ok(MountArgs::Dump),
-        3 => Ok(MountArgs::Umnt {
-            path: path_of(alloc, reader)?,
-        }),
-        4 => Ok(MountArgs::UmntAll),
-        _ => Ok(MountArgs::Export),
+/// The arguments of procedures 0 to 5.
+impl Body for MountArgs {
+    ghost has = { λ n. n ≤ 5 };
+
+    ghost kind = { λ n. given n (args_layout n) };
+
+    ghost value = { args_value };
+
+    ghost is_of = { λ n a. proc_of a ≡ n };
+
+    ghost fits = { ArgsFit };
+
+    #[tactic(auto, unfolding(sd_xdr::specs::Reading::reading))]
+    fn read_part(
+        alloc: Global,
+        reader: &mut XdrReader,
+        proc_no: u32,
+    ) -> Result<MountArgs, MsgError> {
+        match proc_no {
+            0 => Ok(MountArgs::Null),
+            1 => Ok(MountArgs::Mnt {
+                path: path_of(alloc, reader)?,
+            }),
+            2 => Ok(MountArgs::Dump),
+            3 => Ok(MountArgs::Umnt {
+                path: path_of(alloc, reader)?,
+            }),
+            4 => Ok(MountArgs::UmntAll),
+            _ => Ok(MountArgs::Export),
+        }
     }
 }
 
-#[tactic(auto, unfolding(sd_xdr::specs::Reading::reading))]
-fn args_of(alloc: Global, reader: &mut XdrReader, proc_no: u32) -> Result<MountArgs, MsgError>
-    requires { proc_no ≤ 5 }
-    ensures takes { Takes (args_kind proc_no) args_value reader.old reader.new result }
-    ensures of_proc { IfOk result (λ a. proc_of a ≡ proc_no) }
-    ensures fits { IfOk result ArgsFit }
-{
-    let args = args_part(alloc, reader, proc_no)?;
-    reader.end()?;
-    Ok(args)
-}
-
 /// The arguments of a procedure that the bytes, all of them, spell, or the first refusal in the order of the bytes.
-#[tactic(auto, using(sd_xdr::proofs::Whole::answers))]
 pub fn read_mount_args(alloc: Global, proc_no: u32, bytes: &[u8]) -> Result<MountArgs, MsgError>
     requires { proc_no ≤ 5 }
     ensures answers { Answers (args_kind proc_no) args_value bytes.now result }
@@ -60,7 +59,7 @@ pub fn read_mount_args(alloc: Global, proc_no: u32, bytes: &[u8]) -> Result<Moun
     // What was read can be written.
     ensures fits { IfOk result ArgsFit }
 {
-    args_of(alloc, &mut XdrReader::new(bytes), proc_no)
+    read_body::<MountArgs>(alloc, proc_no, bytes)
 }
 
 #[tactic(auto, unfolding(sd_xdr::specs::Reading::reading))]
@@ -74,34 +73,35 @@ fn status_part(alloc: Global, reader: &mut XdrReader) -> Result<MountResult, Msg
     }
 }
 
-#[tactic(auto, unfolding(sd_xdr::specs::Reading::reading))]
-fn result_part(alloc: Global, reader: &mut XdrReader, proc_no: u32) -> Result<MountResult, MsgError>
-    requires { proc_no ≤ 5 }
-    ensures takes { Takes (given (result_place proc_no) (result_layout (result_place proc_no))) result_value reader.old reader.new result }
-    ensures of_proc { IfOk result (λ r. IsResultOf proc_no r) }
-{
-    match proc_no {
-        1 => Ok(status_part(alloc, reader)?),
-        2 => Ok(MountResult::Mounts(read_list(alloc, reader)?)),
-        5 => Ok(MountResult::Exports(read_list(alloc, reader)?)),
-        _ => Ok(MountResult::Void),
-    }
-}
+/// The results of procedures 0 to 5.
+impl Body for MountResult {
+    ghost has = { λ n. n ≤ 5 };
 
-#[tactic(auto, unfolding(sd_xdr::specs::Reading::reading))]
-fn result_of(alloc: Global, reader: &mut XdrReader, proc_no: u32) -> Result<MountResult, MsgError>
-    requires { proc_no ≤ 5 }
-    ensures takes { Takes (result_kind proc_no) result_value reader.old reader.new result }
-    ensures of_proc { IfOk result (λ r. IsResultOf proc_no r) }
-{
-    let result = result_part(alloc, reader, proc_no)?;
-    reader.end()?;
-    Ok(result)
+    ghost kind = { λ n. given (result_place n) (result_layout (result_place n)) };
+
+    ghost value = { result_value };
+
+    ghost is_of = { IsResultOf };
+
+    ghost fits = { λ _. Unit {0} };
+
+    #[tactic(auto, unfolding(sd_xdr::specs::Reading::reading))]
+    fn read_part(
+        alloc: Global,
+        reader: &mut XdrReader,
+        proc_no: u32,
+    ) -> Result<MountResult, MsgError> {
+        match proc_no {
+            1 => Ok(status_part(alloc, reader)?),
+            2 => Ok(MountResult::Mounts(read_list(alloc, reader)?)),
+            5 => Ok(MountResult::Exports(read_list(alloc, reader)?)),
+            _ => Ok(MountResult::Void),
+        }
+    }
 }
 
 /// The result of a procedure that the bytes, all of them, spell, or the first refusal in the order of the bytes. Any status of
 /// procedure 1 that isn't 0 is a refusal by the server.
-#[tactic(auto, using(sd_xdr::proofs::Whole::answers))]
 pub fn read_mount_result(alloc: Global, proc_no: u32, bytes: &[u8]) -> Result<MountResult, MsgError>
     requires { proc_no ≤ 5 }
     ensures answers { Answers (result_kind proc_no) result_value bytes.now result }
@@ -109,5 +109,5 @@ pub fn read_mount_result(alloc: Global, proc_no: u32, bytes: &[u8]) -> Result<Mo
     // What was read can be written.
     ensures fits { IfOk result ResultFits }
 {
-    result_of(alloc, &mut XdrReader::new(bytes), proc_no)
+    read_body::<MountResult>(alloc, proc_no, bytes)
 }

@@ -2,10 +2,8 @@
 use Rattle.std.proofs.Common.{◌≡◌, ℕ, Bool, true, false, cond, eqb, List, [], ◌++◌, Result, Ok, Err, IfOk, refl, sym, ap, subst, ◌∙◌, arith}
 use Rattle.sd_xdr.specs.Kind.{whole, part, Kind, void, union, any, given, number, none, ◌⊗◌}
 use Rattle.sd_xdr.specs.Grammar.{HasSpelling, IsPlain, Reads, Answers, writes, word_bytes}
-use Rattle.sd_outside.specs.Bytes.{IsBytes}
 use Rattle.sd_xdr.specs.declared.error.MsgError.{MsgError}
-use Rattle.sd_xdr.specs.Reading.{Cursor, start, Takes}
-use Rattle.sd_xdr.proofs.Whole.{answers, one_value}
+use Rattle.sd_xdr.proofs.Whole.{one_value}
 use Rattle.sd_xdr.proofs.Writes.{written_is_read, one_spelling, read_has_spelling}
 use Rattle.sd_nfs_msg.specs.declared.message.NfsArgs.{NfsArgs}
 use Rattle.sd_nfs_msg.specs.declared.message.NfsResult.{NfsResult}
@@ -99,11 +97,6 @@ result_one_spelling_of n r bs h =
     (one ∙ same_bytes n r is.1 (of_proc n r is.0), is.0, is.1)
 
 -- what was read can be written
-fits_if_read : (n : ℕ) (bs : List ℕ) (answer : Result NfsResult MsgError) → Answers (result_kind n) result_value bs answer → IfOk answer ResultFits
+pub fits_if_read : (n : ℕ) (bs : List ℕ) (answer : Result NfsResult MsgError) → Answers (result_kind n) result_value bs answer → IfOk answer ResultFits
 fits_if_read n bs (Ok r) h = result_fits r (result_is n r (read_has_spelling whole (result_kind n) bs (result_value r) h)).1
 fits_if_read n bs (Err e) h = tt
-
-pub fits_if_taken : (n : ℕ) (bs : List ℕ) (old new : Cursor) (answer : Result NfsResult MsgError) → IsBytes bs → old ≡ start bs
-    → Takes (result_kind n) result_value old new answer → IfOk answer ResultFits
-fits_if_taken n bs old new answer is from h =
-    fits_if_read n bs answer (answers (result_kind n) result_value bs new answer is (subst (λ (c : Cursor). Takes (result_kind n) result_value c new answer) from h))

@@ -12,6 +12,10 @@ use Rattle.sd_nfs_msg.specs.declared.message.NfsArgs.TheVariants as args
 use Rattle.sd_nfs_msg.specs.declared.message.NfsResult.{NfsResult}
 use Rattle.sd_nfs_msg.specs.declared.message.NfsResult.TheVariants as results
 
+-- the port of a file server (section 3.4)
+abbrev pub nfs_port : ℕ
+nfs_port = 2049
+
 -- MAXNAMLEN, MAXPATHLEN and MAXDATA (section 3.5)
 abbrev pub name_limit : ℕ
 name_limit = 255

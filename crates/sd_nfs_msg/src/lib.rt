@@ -13,11 +13,8 @@ mod writing;
 pub use laws::{
     args_one_spelling, args_written_are_read, result_one_spelling, result_written_is_read,
 };
-pub use message::{NfsArgs, NfsResult};
+pub use message::{NFS_PORT, NfsArgs, NfsResult};
 pub use parts::{DirEntry, EntryList, Fattr, Sattr};
 pub use reading::{read_args, read_result};
 pub use sd_outside::FHandle;
 pub use writing::{write_args, write_result};
-
-#[cfg(test)]
-mod tests;

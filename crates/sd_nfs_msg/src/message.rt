@@ -3,6 +3,9 @@
 use crate::parts::{EntryList, Fattr, Sattr};
 use sd_outside::{ByteList, FHandle};
 
+/// The port of a file server (RFC 1094, section 3.4).
+pub const NFS_PORT: u16 = 2049;
+
 /// The arguments of a procedure, one variant for each. A name has at most 255 bytes, a path at most 1,024, and what is written at
 /// most 8,192. Procedures 3 and 7 are obsolete and unused.
 #[derive(Debug, Drop)]

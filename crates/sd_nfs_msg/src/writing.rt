@@ -2,7 +2,7 @@
 
 ghost use Rattle.std.specs.Prelude.{◌≡◌, ◌≤◌, ◌++◌, length, OnOk, IfOk};
 ghost use Rattle.sd_xdr.specs.Grammar.{writes, word_bytes};
-ghost use Rattle.sd_nfs_msg.specs.Layout.{name_limit, diropargs, place_value, fhandle, fh_value, fattr, attr_value, args_bytes, proc_of, ArgsFit, result_bytes, ResultFits};
+ghost use Rattle.sd_nfs_msg.specs.Layout.{name_limit, diropargs, place_value, fhandle, fh_value, fattr, attr_value, args_bytes, ArgsFit, result_bytes, ResultFits};
 
 use crate::message::{NfsArgs, NfsResult};
 use crate::parts::Fattr;
@@ -17,52 +17,6 @@ fn put_place(writer: &mut XdrWriter, dir: &FHandle, name: &ByteList) -> Result<(
 {
     dir.write(writer)?;
     name.write(writer)
-}
-
-/// The arguments of a procedure that makes or takes a name.
-fn put_names(writer: &mut XdrWriter, args: &NfsArgs) -> Result<(), NoMemory>
-    requires from { 9 ≤ proc_of args.now }
-    requires limit { proc_of args.now ≤ 15 }
-    requires fits { ArgsFit args.now }
-    ensures { OnOk result (writer.new ≡ writer.old ++ args_bytes args.now) }
-{
-    match args {
-        NfsArgs::Create { dir, name, set } | NfsArgs::Mkdir { dir, name, set } => {
-            put_place(writer, dir, name)?;
-            set.write(writer)
-        }
-        NfsArgs::Remove { dir, name } | NfsArgs::Rmdir { dir, name } => put_place(
-            writer, dir, name,
-        ),
-        NfsArgs::Rename {
-            dir,
-            name,
-            to_dir,
-            to_name,
-        } => {
-            put_place(writer, dir, name)?;
-            put_place(writer, to_dir, to_name)
-        }
-        NfsArgs::Link {
-            from,
-            to_dir,
-            to_name,
-        } => {
-            from.write(writer)?;
-            put_place(writer, to_dir, to_name)
-        }
-        NfsArgs::Symlink {
-            dir,
-            name,
-            path,
-            set,
-        } => {
-            put_place(writer, dir, name)?;
-            writer.opaque_var(path.as_slice())?;
-            set.write(writer)
-        }
-        _ => unreachable!(),
-    }
 }
 
 fn put_args(writer: &mut XdrWriter, args: &NfsArgs) -> Result<(), NoMemory>
@@ -103,7 +57,40 @@ fn put_args(writer: &mut XdrWriter, args: &NfsArgs) -> Result<(), NoMemory>
             writer.opaque_fixed(cookie)?;
             writer.u32(*count)
         }
-        _ => put_names(writer, args),
+        NfsArgs::Create { dir, name, set } | NfsArgs::Mkdir { dir, name, set } => {
+            put_place(writer, dir, name)?;
+            set.write(writer)
+        }
+        NfsArgs::Remove { dir, name } | NfsArgs::Rmdir { dir, name } => put_place(
+            writer, dir, name,
+        ),
+        NfsArgs::Rename {
+            dir,
+            name,
+            to_dir,
+            to_name,
+        } => {
+            put_place(writer, dir, name)?;
+            put_place(writer, to_dir, to_name)
+        }
+        NfsArgs::Link {
+            from,
+            to_dir,
+            to_name,
+        } => {
+            from.write(writer)?;
+            put_place(writer, to_dir, to_name)
+        }
+        NfsArgs::Symlink {
+            dir,
+            name,
+            path,
+            set,
+        } => {
+            put_place(writer, dir, name)?;
+            writer.opaque_var(path.as_slice())?;
+            set.write(writer)
+        }
     }
 }
 

@@ -1,10 +1,10 @@
 -- One call of a store after another.
-use Rattle.std.proofs.Common.{◌≡◌, ◌⊎◌, inl, inr, ℕ, ◌≤◌, List, Bool, true, false, refl, ap, sym, arith}
-use Rattle.std.specs.Prelude.{Option, Some, None}
+use Rattle.std.proofs.Common.{◌≡◌, ◌⊎◌, inl, inr, ℕ, ◌≤◌, List, Bool, true, false, refl, ap, sym, arith, ◌∙◌}
+use Rattle.std.specs.Prelude.{Option, Some, None, is_some, not}
 use Rattle.sd_outside.specs.Disk.{LeavesOnly}
 use Rattle.sd_stable_disk.specs.Files.{IsEither}
 use Rattle.sd_stable_disk.specs.declared.errors.OpenError.{OpenError}
-use Rattle.sd_nfs_server.specs.Acts.{place_of, damaged_in}
+use Rattle.sd_nfs_server.specs.Acts.{place_of, damaged_in, is_refused}
 
 -- what crashes leave in one stretch of time, and then in the next
 pub leaves_then : {D A : Type 0} (moment : D → ℕ) (left_since : D → ℕ → A → Type 0) (a b c : D) (P Q : A → Type 0) → ((left : A) → Q left → P left) → LeavesOnly moment left_since a b P → LeavesOnly moment left_since b c Q → LeavesOnly moment left_since a c P
@@ -52,3 +52,20 @@ none_damaged false refusal came = sym (ap (damaged_in false) (came refl))
 pub place_damaged : (up : Bool) (refusal : Option OpenError) (error : OpenError) → up ≡ false → refusal ≡ Some error → place_of error ≡ damaged_in up refusal
 place_damaged true refusal error down is = absurd (cc down)
 place_damaged false refusal error down is = sym (ap (damaged_in false) is)
+
+-- recovery wasn't refused where the store was up, or came up
+pub not_refused : (up : Bool) (refusal : Option OpenError) → (up ≡ false → refusal ≡ None) → is_refused up refusal ≡ false
+not_refused true refusal came = refl
+not_refused false refusal came = ap is_some (came refl)
+
+-- it was where a store that was down has a refusal
+pub was_refused : (up : Bool) (refusal : Option OpenError) (error : OpenError) → up ≡ false → refusal ≡ Some error → is_refused up refusal ≡ true
+was_refused true refusal error down is = absurd (cc down)
+was_refused false refusal error down is = ap is_some is
+
+-- the store is up but where it was refused
+pub up_where : (now up : Bool) (refusal : Option OpenError) → now ≡ true → is_refused up refusal ≡ false → now ≡ not (is_refused up refusal)
+up_where now up refusal is no_refusal = is ∙ sym (ap not no_refusal)
+
+pub down_as : (now up : Bool) (refusal : Option OpenError) → now ≡ false → is_refused up refusal ≡ true → now ≡ not (is_refused up refusal)
+down_as now up refusal is refused = is ∙ sym (ap not refused)

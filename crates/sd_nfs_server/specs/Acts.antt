@@ -1,5 +1,5 @@
 -- What an act on the store answers.
-use Rattle.std.specs.Prelude.{◌≡◌, ◌⊎◌, ℕ, ◌≤◌, ◌==◌, List, Bool, true, false, Option, Some, None, IsSome}
+use Rattle.std.specs.Prelude.{◌≡◌, ◌⊎◌, ℕ, ◌≤◌, ◌==◌, ◌&&◌, not, is_some, List, Bool, true, false, Option, Some, None, IsSome}
 use Rattle.sd_outside.specs.Causes.{Rose}
 use Rattle.sd_stable_disk.specs.Files.{Stored, files, may_hold, IsEither}
 use Rattle.sd_stable_disk.specs.declared.errors.OpenError.{OpenError}
@@ -18,6 +18,10 @@ abbrev pub damaged_in : Bool → Option OpenError → Option ℕ
 damaged_in true refusal = None
 damaged_in false None = None
 damaged_in false (Some error) = place_of error
+
+-- the store was down, and its recovery was refused
+abbrev pub is_refused : Bool → Option OpenError → Bool
+is_refused up refusal = not up && is_some refusal
 
 -- a refusal of recovery
 abbrev pub acted_of : OpenError → Acted
@@ -40,6 +44,12 @@ StayedDown seen may_leave old new =
 -- each crash leaves the files as they were, or with these bytes in one of them
 abbrev pub LeavesEither : ℕ → ℕ → List ℕ → Option (List (List ℕ)) → (Option (List (List ℕ)) → Type 0) → Type 0
 LeavesEither file at bytes old may_hold = (left : Option (List (List ℕ))) → may_hold left → IsEither file at bytes old left
+
+-- A write that failed leaves one doubt at a time: where recovery was refused, what a crash could leave before; else the file before
+-- or after this write.
+abbrev pub LeavesOneDoubt : {D : Type 0} → (D → Option (List ℕ)) → (D → List ℕ → Type 0) → ℕ → ℕ → List ℕ → Stored D → Stored D → Bool → Type 0
+LeavesOneDoubt seen may_leave file at bytes old new true = StayedDown seen may_leave old new
+LeavesOneDoubt seen may_leave file at bytes old new false = LeavesEither file at bytes (files seen old) (may_hold may_leave new)
 
 -- Why an act answers what it does, by the disk's count before and after it.
 pub record HasReason (told : Type 0) (before now : ℕ) (acted : Acted) : Type 0 where

@@ -4,4 +4,3 @@ pub mod Steps
 pub mod Placing
 pub mod Live
 pub mod Acts
-pub mod Untold

@@ -1,5 +1,5 @@
 //! Reads and writes of the swap file in a store that may have to come up first. They take no memory.
-ghost use Rattle.std.specs.Prelude.{◌≡◌, ◌≢◌, ◌⊎◌, ◌+◌, ◌<◌, ◌≤◌, [], length, true, false, slice_index, is_ok, OnOk, IfErr, IfSome, IsOk, IsSome, Err};
+ghost use Rattle.std.specs.Prelude.{◌≡◌, ◌≢◌, ◌⊎◌, ◌+◌, ◌<◌, ◌≤◌, [], length, not, true, false, slice_index, is_ok, OnOk, IfErr, IfSome, IsOk, IsSome, Err};
 ghost use Rattle.std.specs.Option.{option_map};
 ghost use Rattle.std.specs.Result.{result_err};
 ghost use Rattle.sd_outside.specs.Ranges.{part};
@@ -9,7 +9,7 @@ ghost use Rattle.sd_stable_disk.specs.Image.{written};
 ghost use Rattle.sd_stable_disk.specs.Files.{files, may_hold, held_since, IsEither, OnlyHolds, HasFault};
 ghost use Rattle.sd_stable_disk.specs.declared.errors.OpenError.TheVariants.{DiskFault as OpenFault, NoMemory as NoRoom};
 ghost use Rattle.sd_services.specs.NfsReply.{swap_file, file_in};
-ghost use Rattle.sd_nfs_server.specs.Acts.{acted_of, damaged_in, is_done, IsFault, HasReason, StayedDown, LeavesEither};
+ghost use Rattle.sd_nfs_server.specs.Acts.{acted_of, damaged_in, is_refused, is_done, IsFault, HasReason, LeavesOneDoubt};
 
 use crate::status::IO;
 use sd_outside::Disk;
@@ -79,6 +79,7 @@ pub fn bring_up<D: Disk>(store: &mut Store<D>) -> Acted
     ensures kept { store.old.up ≡ true → store.new ≡ store.old }
     ensures sizes { store.new.sizes ≡ store.old.sizes }
     ensures files { files D.seen store.new ≡ files D.seen store.old }
+    ensures came_up { store.new.up ≡ not (is_refused store.old.up store.new.refusal) }
     ensures durable { store.old.up ≡ false → result.status ≡ 0 → OnlyHolds (files D.seen store.new) (may_hold D.may_leave store.new) }
     ensures crash { (left : _) → may_hold D.may_leave store.new left → may_hold D.may_leave store.old left ⊎ (left ≡ files D.seen store.old) }
     ensures moments { LeavesOnly (λ store. D.moment store.disk) (held_since D.left_since) store.old store.new (λ left. may_hold D.may_leave store.old left ⊎ (left ≡ files D.seen store.old)) }
@@ -101,7 +102,7 @@ pub fn act_read<D: Disk>(store: &mut Store<D>, at: u64, into: &mut [u8]) -> Acte
     ensures read { result.status ≡ 0 → IfSome (files D.seen store.old) (λ stored. into.new ≡ part at (length into.old) (file_in stored swap_file)) }
     ensures files { files D.seen store.new ≡ files D.seen store.old }
     ensures up { result.status ≡ 0 → store.new.up ≡ true }
-    ensures stays { store.old.up ≡ true → store.new.up ≡ true }
+    ensures came_up { store.new.up ≡ not (is_refused store.old.up store.new.refusal) }
     ensures sizes { store.new.sizes ≡ store.old.sizes }
     ensures durable { store.new.up ≡ true → OnlyHolds (files D.seen store.old) (may_hold D.may_leave store.new) }
     ensures crash { (left : _) → may_hold D.may_leave store.new left → may_hold D.may_leave store.old left ⊎ (left ≡ files D.seen store.old) }
@@ -132,8 +133,8 @@ pub fn act_write<D: Disk>(store: &mut Store<D>, at: u64, bytes: &[u8]) -> Acted
     ensures sizes { store.new.sizes ≡ store.old.sizes }
     ensures files { IsEither swap_file at bytes.now (files D.seen store.old) (files D.seen store.new) }
     ensures crash { (left : _) → may_hold D.may_leave store.new left → may_hold D.may_leave store.old left ⊎ IsEither swap_file at bytes.now (files D.seen store.old) left }
-    // One doubt at a time: what a crash could leave before, or the file before or after this write.
-    ensures apart { result.status ≡ 5 → StayedDown D.seen D.may_leave store.old store.new ⊎ LeavesEither swap_file at bytes.now (files D.seen store.old) (may_hold D.may_leave store.new) }
+    ensures apart { result.status ≡ 5 → LeavesOneDoubt D.seen D.may_leave swap_file at bytes.now store.old store.new (is_refused store.old.up store.new.refusal) }
+    ensures came_up { result.status ≡ 0 → is_refused store.old.up store.new.refusal ≡ false }
     ensures moments { LeavesOnly (λ store. D.moment store.disk) (held_since D.left_since) store.old store.new (λ left. may_hold D.may_leave store.old left ⊎ IsEither swap_file at bytes.now (files D.seen store.old) left) }
     ensures damaged { result.damaged ≡ damaged_in store.old.up store.new.refusal }
     ensures tells { D.tells_crash store.new.disk ≡ D.tells_crash store.old.disk }

@@ -21,6 +21,3 @@ pub use acts::{Acted, act_read, act_write, bring_up};
 pub use handle::fhandle_of;
 pub use plan::{NfsPlan, plan_nfs};
 pub use tree::Tree;
-
-#[cfg(test)]
-mod tests;

@@ -53,10 +53,8 @@ impl Slot {
         self.is_sync = false;
         self.at = at;
         self.bytes.clear();
-        match self.bytes.extend_from_slice(bytes) {
-            Ok(()) => {}
-            Err(_) => unreachable!(),
-        }
+        // The slot has room for the longest change.
+        let _ = self.bytes.extend_from_slice(bytes);
     }
 
     fn set_sync(&mut self)

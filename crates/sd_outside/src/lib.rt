@@ -40,5 +40,5 @@ pub use list::ListOf;
 pub use mem_disk::MemDisk;
 pub use mem_sink::MemSink;
 pub use mem_source::MemSource;
-pub use packet::{Addr, Mac, Packet};
+pub use packet::{Addr, BROADCAST_IP, Mac, Packet};
 pub use streams::{Sink, Source};

@@ -84,9 +84,8 @@ impl Sink for MemSink {
             self.faults = self.faults.saturating_add(1);
             return Err(Failed);
         }
-        match self.bytes.extend_from_slice(&bytes[..count]) {
-            Ok(()) => Ok(count),
-            Err(_) => unreachable!(),
-        }
+        // There is room for them since the sink was made.
+        let _ = self.bytes.extend_from_slice(&bytes[..count]);
+        Ok(count)
     }
 }

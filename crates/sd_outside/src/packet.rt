@@ -14,6 +14,9 @@ pub struct Addr {
     pub port: u16,
 }
 
+/// The address to which everyone listens (RFC 919).
+pub const BROADCAST_IP: u32 = 0xffff_ffff;
+
 /// What one machine sends to another.
 #[derive(Debug, Drop)]
 pub enum Packet {

@@ -8,6 +8,10 @@ use Rattle.sd_portmap.specs.declared.message.PmapArgs.TheVariants as args
 use Rattle.sd_portmap.specs.declared.message.PmapResult.{PmapResult}
 use Rattle.sd_portmap.specs.declared.message.PmapResult.TheVariants as results
 
+-- PMAP_PORT
+abbrev pub pmap_port : ℕ
+pmap_port = 111
+
 -- ---- kinds
 
 -- mapping: prog, vers, prot, port

@@ -16,11 +16,8 @@ pub use laws::{
     args_one_spelling, args_written_are_read, mappings_are_found, result_one_spelling,
     result_written_is_read,
 };
-pub use mapping::{Mapping, MappingList};
+pub use mapping::{Mapping, MappingList, PMAP_PORT};
 pub use message::{PmapArgs, PmapResult};
 pub use reading::{read_pmap_args, read_pmap_result};
 pub use table::Table;
 pub use writing::{write_pmap_args, write_pmap_result};
-
-#[cfg(test)]
-mod tests;

@@ -6,6 +6,9 @@ use sd_outside::{ListOf, NoMemory};
 use sd_xdr::{Item, MsgError, XdrReader, XdrWriter};
 use std::alloc::Global;
 
+/// The port of every portmapper (RFC 1057, appendix A.1).
+pub const PMAP_PORT: u16 = 111;
+
 /// A program in one of its versions, which is served over a protocol at a port (RFC 1057, appendix A.1).
 #[derive(Clone, Copy, Debug, PartialEq, Eq)]
 pub struct Mapping {

@@ -19,6 +19,3 @@ pub use reading::read_message;
 pub use sd_xdr::MsgError;
 pub use unix::{GidList, UnixCred, read_unix, write_unix};
 pub use writing::write_message;
-
-#[cfg(test)]
-mod tests;

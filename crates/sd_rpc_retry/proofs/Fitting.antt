@@ -15,11 +15,12 @@ use Rattle.sd_rpc_retry.specs.declared.calling.Ask.TheVariants as ask
 use Rattle.sd_rpc_retry.specs.declared.calling.Answer.{Answer}
 use Rattle.sd_rpc_retry.specs.declared.calling.Answer.TheVariants as answer
 use Rattle.sd_rpc_retry.specs.declared.calling.Caller.{Caller}
-use Rattle.sd_rpc_retry.specs.declared.asking.Asked.{Asked}
-use Rattle.sd_rpc_retry.specs.declared.asking.Asked.TheVariants as asked
+use Rattle.std.specs.Prelude.{IfOk, Result}
+use Rattle.sd_rpc_retry.specs.declared.calling.CallError.{CallError}
+use Rattle.sd_rpc_retry.specs.declared.calling.CallError.TheVariants as error
 use Rattle.sd_services.specs.RpcCalls.{value_read, spelled}
 use Rattle.sd_rpc_retry.specs.Calling.{Said, Verdict, home, is_at, comes_from, is_relayed, and_then, message_says, whoami_in, getfile_in, bootparams_results, bootparams_says, answer_in, verdict_of, verdict_in}
-use Rattle.sd_rpc_retry.specs.Calls.{IsTold, IsAnswerTo, IsAnsweredBy}
+use Rattle.sd_rpc_retry.specs.Calls.{asked_as, IsTold, IsAnswerTo}
 use Rattle.sd_rpc_retry.proofs.MatchLaw.{only_if, some_is, follows, mapped}
 use Rattle.sd_xdr.proofs.Sound.{bind_ok, ok_is}
 use Rattle.std.proofs.lemmas.List.{length-take}
@@ -132,10 +133,11 @@ packet_fits me xid dst asked (Udp from to body) a h =
     let f = follows (and_then (spelled message body) (message_says xid)) (verdict_of asked dst from.ip) (Ok a) i.1 in
     said_fits asked dst from.ip f.0 a f.2
 
--- What came of asking is of the kind that was asked for, where it is an answer.
-pub told_fits : (caller : Caller) (dst : Addr) (what : Ask) (came : Asked Verdict) → IsTold caller dst what came → IsAnsweredBy what came
-told_fits caller dst what (asked.Answer (Ok a)) t = packet_fits (home caller) caller.next_xid dst what t.0 a t.1
-told_fits caller dst what (asked.Answer (Err code)) t = tt
-told_fits caller dst what asked.Timeout t = tt
-told_fits caller dst what asked.Flood t = tt
-told_fits caller dst what asked.Fault t = tt
+-- What is told is of the kind that was asked for.
+pub told_fits : {T : Type 0} (caller : Caller) (dst : Addr) (what : Ask) (shown : T → Answer) (r : Result T CallError) → IfOk (asked_as r) (IsTold caller dst what shown) → IfOk r (λ told. IsAnswerTo what (shown told))
+told_fits caller dst what shown (Ok told) t = packet_fits (home caller) caller.next_xid dst what t.0 (shown told) t.1
+told_fits caller dst what shown (Err error.Timeout) t = tt
+told_fits caller dst what shown (Err error.Flood) t = tt
+told_fits caller dst what shown (Err (error.Denied code)) t = tt
+told_fits caller dst what shown (Err error.LinkFault) t = tt
+told_fits caller dst what shown (Err error.NoMemory) t = tt

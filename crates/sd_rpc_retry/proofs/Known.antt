@@ -4,8 +4,7 @@ use Rattle.std.specs.Option.{option_map}
 use Rattle.sd_xdr.specs.declared.error.MsgError.{MsgError}
 use Rattle.sd_xdr.specs.declared.error.MsgError.TheVariants.{Xdr, RpcVersion, AuthLong, NoMemory}
 use Rattle.sd_xdr.specs.Kind.{whole, Kind, Value}
-use Rattle.sd_xdr.specs.Grammar.{Reads, Refuses, Answers}
-use Rattle.sd_xdr.proofs.Whole.{whole_again}
+use Rattle.sd_xdr.specs.Grammar.{Refuses, Answers}
 use Rattle.sd_xdr.proofs.Again.{refuses_again}
 use Rattle.std.specs.Prelude.{IfSome}
 use Rattle.sd_rpc_msg.specs.declared.message.Message.{Message}
@@ -13,10 +12,8 @@ use Rattle.sd_rpc_msg.specs.Layout.{message, message_value}
 use Rattle.sd_rpc_msg.specs.Laws.{IsMessage}
 use Rattle.sd_rpc_msg.proofs.Told.{one_spelling_of}
 use Rattle.sd_services.specs.RpcCalls.{value_read, spelled}
+use Rattle.sd_services.proofs.Spelled.{spelled_some}
 use Rattle.sd_rpc_retry.specs.Reading.{IsKnown}
-
-pub spelled_some : (K : Kind whole) (bs : List ℕ) (x : Value) → Reads whole K bs x → spelled K bs ≡ Some x
-spelled_some K bs x h = ap value_read (whole_again K bs x h)
 
 pub spelled_none : (K : Kind whole) (bs : List ℕ) (why : MsgError) → Refuses whole K 0 bs why → spelled K bs ≡ None
 spelled_none K bs why h = ap value_read (refuses_again whole K 0 bs why h)

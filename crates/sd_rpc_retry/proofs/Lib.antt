@@ -1,5 +1,8 @@
 pub mod Getting
 pub mod Lasting
+pub mod Lawfulness
+pub mod Failing
+pub mod Sent
 pub mod Settling
 pub mod Listening
 pub mod Tried

@@ -2,13 +2,13 @@
 use Rattle.std.proofs.Common.{◌≡◌, inl, inr, ℕ, ◌+◌, ◌<◌, ◌≤◌, List, [], ◌∷◌, ◌++◌, length, Option, Some, None, Result, Ok, Err, refl, sym, ◌∙◌, ap, subst, arith, append_assoc, length-append}
 use Rattle.std.proofs.lemmas.List.{append-nil}
 use Rattle.sd_outside.specs.declared.packet.Packet.{Packet}
-use Rattle.sd_link.specs.Steps.{Step, Send, Get, History}
+use Rattle.sd_link.specs.Steps.{Step, Send, Get, Fail, History}
 use Rattle.sd_link.specs.World.{World}
 use Rattle.sd_link.specs.Parts.{sends_in, got_in}
 use Rattle.sd_link.specs.declared.link.LinkError.{LinkError}
 use Rattle.sd_link.specs.declared.link.LinkError.TheVariants.{Failed, NoMemory}
 use Rattle.sd_link.specs.Link.{GoesOn, Moves, Receives, Sends}
-use Rattle.sd_link.specs.Tries.{Hearing, AreUnmatched, flood_limit}
+use Rattle.sd_link.specs.Tries.{Hearing, AreUnmatched, FailsToHear, at_wait, at_reply, flood_limit}
 use Rattle.sd_link.proofs.Histories.{sends-append, got-append, moves_then, moves_weaker}
 use Rattle.sd_rpc_retry.specs.Lasting.{StaysBefore}
 use Rattle.sd_rpc_retry.specs.Asking.{Looks, Hears, IsReplied}
@@ -48,6 +48,12 @@ sent_stays until packet (Err Failed) old part (inr is) = subst (λ (l : List Ste
 silent_front : (xs : List Step) (id : ℕ) (packet : Packet) → sends_in (xs ++ Get id packet ∷ []) ≡ [] → sends_in xs ≡ []
 silent_front xs id packet none = sym (append-nil (sends_in xs)) ∙ sym (sends-append xs (Get id packet ∷ [])) ∙ none
 
+front_silent : (xs : List Step) → sends_in (xs ++ Fail ∷ []) ≡ [] → sends_in xs ≡ []
+front_silent xs none = sym (append-nil (sends_in xs)) ∙ sym (sends-append xs (Fail ∷ [])) ∙ none
+
+front_nothing : (xs : List Step) → got_in (xs ++ Fail ∷ []) ≡ [] → got_in xs ≡ []
+front_nothing xs none = sym (append-nil (got_in xs)) ∙ sym (got-append xs (Fail ∷ [])) ∙ none
+
 module _ {S : Type 0} (h : Hearing S) (until count : ℕ) (a b : History) (xs ys : List Step) (goes : GoesOn a b xs) (q : Quiet h until count a xs) where
   pub got_packet : (packet : Packet) → Receives until (Ok (Some packet)) b ys → Got h until count packet a (xs ++ ys)
   got_packet packet r =
@@ -79,6 +85,23 @@ module _ {S : Type 0} (h : Hearing S) (until count : ℕ) (a b : History) (xs ys
         );
       }
 
+  -- the waiting failed
+  pub hears_failed : {T : Type 0} (shows : T → S) → count < flood_limit → Receives until (Err Failed) b ys → Hears h shows until heard.Fault a (xs ++ ys)
+  hears_failed shows few r =
+      let front = r.hands.0 in
+      let none : got_in front ≡ [] = front_nothing front (ap got_in (sym r.hands.1) ∙ r.hands.2) in
+      let silent : sends_in front ≡ [] = front_silent front (ap sends_in (sym r.hands.1) ∙ r.silent) in
+      let whole : xs ++ ys ≡ (xs ++ front) ++ Fail ∷ [] = ap (λ (l : List Step). xs ++ l) r.hands.1 ∙ sym (append_assoc xs front (Fail ∷ [])) in
+      let many : length (got_in (xs ++ ys)) ≡ count = ap length (got-append xs ys) ∙ ap (λ (l : List Packet). length (got_in xs ++ l)) r.hands.2 ∙ ap length (append-nil (got_in xs)) ∙ q.counted in
+      record {
+        ticks = stays_then a b xs ys until goes q.ticks r.ticks;
+        found = (
+          subst (FailsToHear h) (sym whole) (at_wait (xs ++ front) (replied-append h xs front q.replied (replied-nothing h front silent none))),
+          unmatched-append h.match xs ys q.unmatched (unmatched-nothing h.match ys r.hands.2),
+          omega (arith, few, many),
+        );
+      }
+
   pub fails : (why : LinkError) → Receives until (Err why) b ys → StaysBefore until a (xs ++ ys)
   fails why r = stays_then a b xs ys until goes q.ticks r.ticks
 
@@ -93,6 +116,10 @@ count_one before id packet more count none is =
     ∙ ap (λ (l : List Packet). length (got_in before ++ packet ∷ l)) none
     ∙ length-append (got_in before) (packet ∷ [])
     ∙ ap (λ (n : ℕ). n + 1) is
+
+unsent_nothing : (packet : Packet) (b : History) (ys : List Step) → Sends packet (Err Failed) b ys → got_in ys ≡ []
+unsent_nothing packet b ys (inl is) = ap got_in is
+unsent_nothing packet b ys (inr is) = ap got_in is
 
 module _ {S : Type 0} (h : Hearing S) (until count : ℕ) (packet : Packet) (a : History) (xs : List Step) (g : Got h until count packet a xs) where
   -- it is of no interest
@@ -120,6 +147,22 @@ module _ {S : Type 0} (h : Hearing S) (until count : ℕ) (packet : Packet) (a :
         counted = ap (λ (l : List Step). length (got_in l)) whole ∙ count_one g.before g.id packet (Send sent ∷ []) count refl g.counted;
       }
 
+  -- something is sent for it, and that failed
+  pub hears_unsent : {T : Type 0} (shows : T → S) (b : History) (ys : List Step) (sent : Packet) → count < flood_limit → GoesOn a b xs → h.match packet ≡ None → h.replies packet ≡ sent ∷ [] → Sends sent (Err Failed) b ys
+      → Hears h shows until heard.Fault a (xs ++ ys)
+  hears_unsent shows b ys sent few goes unmatched is sends =
+      let none = unsent_nothing sent b ys sends in
+      let whole : xs ++ ys ≡ g.before ++ Get g.id packet ∷ ys = ap (λ (l : List Step). l ++ ys) g.cut ∙ append_assoc g.before (Get g.id packet ∷ []) ys in
+      let many : length (got_in (xs ++ ys)) ≡ count + 1 = ap (λ (l : List Step). length (got_in l)) whole ∙ count_one g.before g.id packet ys count none g.counted in
+      record {
+        ticks = stays_then a b xs ys until goes g.ticks (sent_stays until sent (Err Failed) b ys sends);
+        found = (
+          subst (FailsToHear h) (sym whole) (at_reply g.before g.id packet sent ys g.replied is sends),
+          subst (λ (l : List Step). AreUnmatched h.match (got_in l)) (sym whole) (unmatched-append h.match g.before (Get g.id packet ∷ ys) g.unmatched (one_got h.match g.id packet ys none unmatched)),
+          omega (arith, few, many),
+        );
+      }
+
   -- it is the answer
   pub hears_found : {T : Type 0} (shows : T → S) (x : T) → count < flood_limit → h.match packet ≡ Some (shows x) → h.replies packet ≡ [] → Hears h shows until (heard.Found x) a xs
   hears_found shows x few is none =
@@ -137,9 +180,6 @@ module _ {S : Type 0} (h : Hearing S) (until count : ℕ) (packet : Packet) (a :
 
 pub hears_flood : {S T : Type 0} (h : Hearing S) (shows : T → S) (until : ℕ) (old : History) (part : List Step) → Quiet h until flood_limit old part → Hears h shows until heard.Flood old part
 hears_flood h shows until old part q = record { ticks = q.ticks; found = (q.replied, q.unmatched, q.counted) }
-
-pub hears_fault : {S T : Type 0} (h : Hearing S) (shows : T → S) (until : ℕ) (old : History) (part : List Step) → StaysBefore until old part → Hears h shows until heard.Fault old part
-hears_fault h shows until old part ticks = record { ticks = ticks; found = tt }
 
 -- ---- what a link tells
 
@@ -159,7 +199,18 @@ module _ {S : Type 0} (h : Hearing S) (until count : ℕ) (old mid new : Option 
       moves_then old mid new (Quiet h until count) (Receives until (Err why)) (StaysBefore until)
       (λ a b xs ys goes q r. fails h until count a b xs ys goes q why r) first second
 
+  pub moves_fault : {T : Type 0} (shows : T → S) (why : LinkError) → count < flood_limit → why ≡ Failed → Moves old mid (Quiet h until count) → Moves mid new (Receives until (Err why)) → Moves old new (Hears h shows until heard.Fault)
+  moves_fault shows why few is first second =
+      moves_then old mid new (Quiet h until count) (Receives until (Err Failed)) (Hears h shows until heard.Fault)
+      (λ a b xs ys goes q r. hears_failed h until count a b xs ys goes q shows few r) first (subst (λ (e : LinkError). Moves mid new (Receives until (Err e))) is second)
+
   -- a packet was looked at
+  pub moves_unsent_fault : {T : Type 0} (shows : T → S) (packet sent : Packet) (why : LinkError) → count < flood_limit → why ≡ Failed → Looks h shows packet (Reply sent) → Moves old mid (Got h until count packet) → Moves mid new (Sends sent (Err why))
+      → Moves old new (Hears h shows until heard.Fault)
+  moves_unsent_fault shows packet sent why few is looks first second =
+      moves_then old mid new (Got h until count packet) (Sends sent (Err Failed)) (Hears h shows until heard.Fault)
+      (λ a b xs ys goes g s. hears_unsent h until count packet a xs g shows b ys sent few goes looks.0 looks.1 s) first (subst (λ (e : LinkError). Moves mid new (Sends sent (Err e))) is second)
+
   pub moves_reply : {T : Type 0} (shows : T → S) (packet sent : Packet) → Looks h shows packet (Reply sent) → Moves old mid (Got h until count packet) → Moves mid new (Sends sent (Ok tt)) → Moves old new (Quiet h until (count + 1))
   moves_reply shows packet sent looks first second =
       moves_then old mid new (Got h until count packet) (Sends sent (Ok tt)) (Quiet h until (count + 1))
@@ -177,9 +228,6 @@ module _ {S T : Type 0} (h : Hearing S) (shows : T → S) (until : ℕ) (old new
   pub moves_found : (count : ℕ) (packet : Packet) (x : T) → count < flood_limit → Looks h shows packet (Match x) → Moves old new (Got h until count packet) → Moves old new (Hears h shows until (heard.Found x))
   moves_found count packet x few looks m =
       moves_weaker old new (Got h until count packet) (Hears h shows until (heard.Found x)) (λ a xs g. hears_found h until count packet a xs g shows x few looks.0 looks.1) m
-
-  pub moves_fault : Moves old new (StaysBefore until) → Moves old new (Hears h shows until heard.Fault)
-  moves_fault m = moves_weaker old new (StaysBefore until) (Hears h shows until heard.Fault) (λ a xs s. hears_fault h shows until a xs s) m
 
   pub moves_flood : Moves old new (Quiet h until flood_limit) → Moves old new (Hears h shows until heard.Flood)
   moves_flood m = moves_weaker old new (Quiet h until flood_limit) (Hears h shows until heard.Flood) (λ a xs q. hears_flood h shows until a xs q) m

@@ -28,11 +28,12 @@ use Rattle.sd_rpc_retry.specs.declared.calling.Ask.TheVariants as ask
 use Rattle.sd_rpc_retry.specs.declared.calling.Answer.{Answer}
 use Rattle.sd_rpc_retry.specs.declared.calling.Answer.TheVariants as answer
 use Rattle.sd_services.specs.RpcCalls.{spelled}
-use Rattle.sd_services.specs.RpcReply.{pmap_port, address_in}
+use Rattle.sd_portmap.specs.Layout.{pmap_port}
+use Rattle.sd_services.specs.RpcReply.{address_in}
 use Rattle.sd_rpc_retry.specs.Calling.{Said, Verdict, is_everyone, is_relayed, comes_from, is_at, and_then, port_in, whoami_in, getfile_in, relayed_in, bootparams_says, answer_in, verdict_of, verdict_in, reply_says, message_says}
 use Rattle.sd_rpc_retry.specs.Matches.{TellsResult, Tells, Decides, MayReply, Matches, CarriesBytes, VerdictIsMatch}
-use Rattle.sd_rpc_retry.proofs.Known.{spelled_some}
-use Rattle.sd_rpc_retry.proofs.MatchLaws.{reads_of, shape_of, port_shape, relayed_shape, whoami_shape, getfile_shape, outcome_of}
+use Rattle.sd_services.proofs.Spelled.{spelled_some, reads_of, shape_of, bytes_back, counted_bytes}
+use Rattle.sd_rpc_retry.proofs.MatchLaws.{port_shape, relayed_shape, whoami_shape, getfile_shape, outcome_of}
 
 -- ---- tests
 
@@ -73,17 +74,6 @@ follows (Some x) f y h = (x, refl, h)
 pub mapped : {A B : Type 0} (o : Option A) (f : A → B) (y : B) → option_map f o ≡ Some y → (x : A) × (o ≡ Some x) × (f x ≡ y)
 mapped None f y h = absurd cc
 mapped (Some x) f y h = (x, refl, some_is (f x) y h)
-
--- ---- bytes
-
-bytes_back : (xs ys : List ℕ) → IsBytes (xs ++ ys) → IsBytes ys
-bytes_back [] ys fits = fits
-bytes_back (x ∷ xs) ys fits = bytes_back xs ys (λ i. fits (suc i))
-
-bytes_front : (xs ys : List ℕ) → IsBytes (xs ++ ys) → IsBytes xs
-bytes_front [] ys fits i = omega arith
-bytes_front (x ∷ xs) ys fits zero = fits 0
-bytes_front (x ∷ xs) ys fits (suc i) = bytes_front xs ys (λ j. fits (suc j)) i
 
 -- ---- addresses
 
@@ -138,10 +128,6 @@ answers (ask.Getfile client key) dst from results (answer.Getfile at server ip p
     ∙ (λ i. Some (answer.Getfile (sym h.0 i) server (address_is ip fits.1 i) path))
 
 -- and back
-counted_bytes : (l : List ℕ) → IsBytes (counted l) → IsBytes l
-unfolding counted filled
-counted_bytes l fits = bytes_front l (replicate (filling (length l)) 0) (bytes_back (word_bytes (length l)) (filled l) fits)
-
 relayed_inner : (results inner : List ℕ) → IsBytes results → option_map relayed_in (spelled (portmap.result_kind 5) results) ≡ Some inner
     → (port : ℕ) × portmap_laws.ReadsResult 5 results (pmap.Callit port inner) × IsBytes inner
 relayed_inner results inner fits said =

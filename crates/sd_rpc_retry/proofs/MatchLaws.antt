@@ -1,11 +1,7 @@
 -- What a packet tells a caller, by the grammars and by reading.
 use Rattle.std.proofs.Common.{◌≡◌, ℕ, zero, suc, ◌+◌, ◌*◌, ◌/◌, ◌%◌, ◌^◌, ◌<◌, ◌≤◌, true, ◌&&◌, leb, List, Option, Some, Ok, Err, refl, sym, ap, subst, ◌∙◌, arith}
-use Rattle.sd_outside.specs.Bytes.{IsBytes}
 use Rattle.sd_xdr.specs.Kind.{whole, Kind, Value, number, ◌⊗◌, number_of, bytes_of, first, second, between, char, written, ended}
-use Rattle.sd_xdr.specs.Grammar.{Reads, HasSpelling, WordSpelled}
-use Rattle.sd_xdr.specs.Reading.{Read, reading, start}
-use Rattle.sd_xdr.proofs.Whole.{found}
-use Rattle.sd_xdr.proofs.Writes.{read_has_spelling}
+use Rattle.sd_xdr.specs.Grammar.{HasSpelling, WordSpelled}
 use Rattle.sd_rpc_msg.specs.declared.message.OpaqueAuth.{OpaqueAuth}
 use Rattle.sd_rpc_msg.specs.declared.message.Outcome.{Outcome}
 use Rattle.sd_rpc_msg.specs.declared.message.Outcome.TheVariants.{Success, ProgUnavail, ProgMismatch, ProcUnavail, GarbageArgs, RpcMismatch, AuthError}
@@ -15,23 +11,9 @@ use Rattle.sd_portmap.specs.declared.message.PmapResult.TheVariants as pmap
 use Rattle.sd_bootparams.specs.Layout as bootparams
 use Rattle.sd_bootparams.specs.Layout.{ip, ip_value}
 use Rattle.sd_bootparams.specs.declared.message.BpResult.TheVariants as bp
-use Rattle.sd_services.specs.RpcCalls.{spelled, value_read}
 use Rattle.sd_services.specs.RpcReply.{address_in}
 
 -- ---- what is spelled has the form of a value of its kind
-
-some_is : {A : Type 0} (x y : A) → ◌≡◌ {A = Option A} (Some x) (Some y) → x ≡ y
-some_is x y h = cc
-
-read_of : (K : Kind whole) (bs : List ℕ) (v : Value) → IsBytes bs → (r : Read) → reading K (start bs) ≡ r → value_read r ≡ Some v → Reads whole K bs v
-read_of K bs v fits (Ok x) is said = subst (λ (u : Value). Reads whole K bs u) (some_is x.0 v said) (found K bs x.0 x.1 fits is)
-read_of K bs v fits (Err why) is said = absurd cc
-
-pub reads_of : (K : Kind whole) (bs : List ℕ) (v : Value) → IsBytes bs → spelled K bs ≡ Some v → Reads whole K bs v
-reads_of K bs v fits said = read_of K bs v fits (reading K (start bs)) refl said
-
-pub shape_of : (K : Kind whole) (bs : List ℕ) (v : Value) → IsBytes bs → spelled K bs ≡ Some v → HasSpelling K v
-shape_of K bs v fits said = read_has_spelling whole K bs v (reads_of K bs v fits said)
 
 pub port_shape : (v : Value) → HasSpelling (portmap.result_kind 3) v → v ≡ portmap.result_value (pmap.Port (number_of (second v)))
 port_shape v h = h.0 ∙ ap (λ (x : Value). number 2 ⊗ x) h.1.0

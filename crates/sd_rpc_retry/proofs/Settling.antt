@@ -6,7 +6,7 @@ use Rattle.sd_config.specs.declared.config.Config.{Config}
 use Rattle.sd_config.specs.declared.events.Events.{Events}
 use Rattle.sd_config.specs.Events.{Fates, fates_of}
 use Rattle.sd_link.specs.World.{World}
-use Rattle.sd_link.specs.Steps.{Step, Tick, Send, Serve, Data, End, Get, Entry, History, after, entries_of, run, record_of, world_of, whole_record}
+use Rattle.sd_link.specs.Steps.{Step, Send, Get, Entry, History, after, entries_of, run, record_of, world_of, whole_record}
 use Rattle.sd_link.specs.Parts.{sends_in}
 use Rattle.sd_link.specs.Lawful.{AllGot, Settles, SendsSettled, EndsWithGet}
 use Rattle.sd_link.specs.Link.{GoesOn, NothingWaits, IsSettledBy}
@@ -35,28 +35,16 @@ deeper c fates w entries x xs ys second =
 sends-append : (c : Config) (fates : Fates) (w : World) (entries : List Entry) (xs ys : List Step) → SendsSettled c fates w entries xs → SendsSettled c fates (run c w xs) (entries ++ record_of c w xs) ys
     → SendsSettled c fates w entries (xs ++ ys)
 sends-append c fates w entries [] ys first second = subst (λ (l : List Entry). SendsSettled c fates w l ys) (append-nil entries) second
-sends-append c fates w entries (Tick ∷ xs) ys first second =
-    sends-append c fates (after c w Tick) (entries ++ entries_of c w Tick) xs ys first (deeper c fates w entries Tick xs ys second)
 sends-append c fates w entries (Send packet ∷ xs) ys first second =
     (first.0, sends-append c fates (after c w (Send packet)) (entries ++ entries_of c w (Send packet)) xs ys first.1 (deeper c fates w entries (Send packet) xs ys second))
-sends-append c fates w entries (Serve id ∷ xs) ys first second =
-    sends-append c fates (after c w (Serve id)) (entries ++ entries_of c w (Serve id)) xs ys first (deeper c fates w entries (Serve id) xs ys second)
-sends-append c fates w entries (Data number ∷ xs) ys first second =
-    sends-append c fates (after c w (Data number)) (entries ++ entries_of c w (Data number)) xs ys first (deeper c fates w entries (Data number) xs ys second)
-sends-append c fates w entries (End number ∷ xs) ys first second =
-    sends-append c fates (after c w (End number)) (entries ++ entries_of c w (End number)) xs ys first (deeper c fates w entries (End number) xs ys second)
-sends-append c fates w entries (Get id packet ∷ xs) ys first second =
-    sends-append c fates (after c w (Get id packet)) (entries ++ entries_of c w (Get id packet)) xs ys first (deeper c fates w entries (Get id packet) xs ys second)
+sends-append c fates w entries (x ∷ xs) ys first second =
+    sends-append c fates (after c w x) (entries ++ entries_of c w x) xs ys first (deeper c fates w entries x xs ys second)
 
 -- who sends nothing sends where nothing waits
 pub silent-settled : (c : Config) (fates : Fates) (w : World) (entries : List Entry) (xs : List Step) → sends_in xs ≡ [] → SendsSettled c fates w entries xs
 silent-settled c fates w entries [] silent = tt
-silent-settled c fates w entries (Tick ∷ xs) silent = silent-settled c fates (after c w Tick) (entries ++ entries_of c w Tick) xs silent
 silent-settled c fates w entries (Send packet ∷ xs) silent = absurd cc
-silent-settled c fates w entries (Serve id ∷ xs) silent = silent-settled c fates (after c w (Serve id)) (entries ++ entries_of c w (Serve id)) xs silent
-silent-settled c fates w entries (Data number ∷ xs) silent = silent-settled c fates (after c w (Data number)) (entries ++ entries_of c w (Data number)) xs silent
-silent-settled c fates w entries (End number ∷ xs) silent = silent-settled c fates (after c w (End number)) (entries ++ entries_of c w (End number)) xs silent
-silent-settled c fates w entries (Get id packet ∷ xs) silent = silent-settled c fates (after c w (Get id packet)) (entries ++ entries_of c w (Get id packet)) xs silent
+silent-settled c fates w entries (x ∷ xs) silent = silent-settled c fates (after c w x) (entries ++ entries_of c w x) xs silent
 
 -- ---- histories
 

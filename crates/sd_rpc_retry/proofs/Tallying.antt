@@ -6,7 +6,7 @@ use Rattle.sd_outside.specs.declared.errors.NoMemory.{NoMemory}
 use Rattle.sd_outside.specs.declared.packet.Packet.{Packet}
 use Rattle.sd_config.specs.declared.config.Config.{Config}
 use Rattle.sd_link.specs.World.{World}
-use Rattle.sd_link.specs.Steps.{Step, Tick, Send, Serve, Data, End, Get, History, after, run, world_of}
+use Rattle.sd_link.specs.Steps.{Step, Send, History, after, run, world_of}
 use Rattle.sd_link.specs.Parts.{sends_in, ticks_in}
 use Rattle.sd_link.specs.Link.{GoesOn, Moves, IsNow}
 use Rattle.sd_link.specs.Tries.{Hearing}
@@ -41,21 +41,13 @@ every-push wait tick n = every-suc wait tick n ∙ ap (λ (k : ℕ). every wait 
 
 ticks-append-sends : (c : Config) (w : World) (xs ys : List Step) → send_ticks c w (xs ++ ys) ≡ send_ticks c w xs ++ send_ticks c (run c w xs) ys
 ticks-append-sends c w [] ys = refl
-ticks-append-sends c w (Tick ∷ xs) ys = ticks-append-sends c (after c w Tick) xs ys
 ticks-append-sends c w (Send packet ∷ xs) ys = ap (λ (l : List ℕ). w.tick ∷ l) (ticks-append-sends c (after c w (Send packet)) xs ys)
-ticks-append-sends c w (Serve id ∷ xs) ys = ticks-append-sends c (after c w (Serve id)) xs ys
-ticks-append-sends c w (Data number ∷ xs) ys = ticks-append-sends c (after c w (Data number)) xs ys
-ticks-append-sends c w (End number ∷ xs) ys = ticks-append-sends c (after c w (End number)) xs ys
-ticks-append-sends c w (Get id packet ∷ xs) ys = ticks-append-sends c (after c w (Get id packet)) xs ys
+ticks-append-sends c w (x ∷ xs) ys = ticks-append-sends c (after c w x) xs ys
 
 no_ticks : (c : Config) (w : World) (xs : List Step) → sends_in xs ≡ [] → send_ticks c w xs ≡ []
 no_ticks c w [] none = refl
-no_ticks c w (Tick ∷ xs) none = no_ticks c (after c w Tick) xs none
 no_ticks c w (Send packet ∷ xs) none = absurd cc
-no_ticks c w (Serve id ∷ xs) none = no_ticks c (after c w (Serve id)) xs none
-no_ticks c w (Data number ∷ xs) none = no_ticks c (after c w (Data number)) xs none
-no_ticks c w (End number ∷ xs) none = no_ticks c (after c w (End number)) xs none
-no_ticks c w (Get id packet ∷ xs) none = no_ticks c (after c w (Get id packet)) xs none
+no_ticks c w (x ∷ xs) none = no_ticks c (after c w x) xs none
 
 -- ---- tries in vain
 

@@ -9,7 +9,7 @@ use Rattle.sd_link.specs.Parts.{sends_in, got_in, ticks_in}
 use Rattle.sd_link.specs.Link.{GoesOn, Moves, NothingWaits, IsSettledBy}
 use Rattle.sd_link.specs.Tries.{Hearing, AreUnmatched, RepliesAtOnce, EndsMatched, flood_limit, IsTries, AllSettle, AreInVain, Asks}
 use Rattle.sd_rpc_retry.specs.declared.asking.Heard.{Heard}
-use Rattle.sd_rpc_retry.specs.declared.asking.Heard.TheVariants.{Found, Nothing, Flood}
+use Rattle.sd_rpc_retry.specs.declared.asking.Heard.TheVariants.{Found, Nothing, Flood, Fault}
 use Rattle.sd_rpc_retry.specs.declared.asking.Asked.TheVariants as asked
 use Rattle.sd_rpc_retry.specs.Asking.{Tried, IsTry, IsReplied, IsSilent, SendsIn, IsAsked}
 use Rattle.sd_rpc_retry.proofs.Getting.{all-push, unmatched-append, matched-later, sends_nothing}
@@ -103,6 +103,25 @@ module _ {S T : Type 0} (request : Packet) (h : Hearing S) (shows : T → S) (wa
       unmatched = unmatched_try h request xs t.rest ys t.cut v.unmatched t.ending.unmatched;
     };
     ended = λ silent was. sends_more t.rest t.cut t.replied silent was;
+  }
+
+  -- the network failed in it
+  pub failed : (tries : ℕ) → count < tries → Tried request h shows wait Fault b ys → IsAsked request h shows tries wait asked.Fault a (xs ++ ys)
+  failed tries lt t = record {
+    came = record {
+      rests = v.rests;
+      before = xs;
+      last = ys;
+      is = v.is;
+      few = omega (arith, v.counted);
+      vain = v.vain;
+      fails = t.failed;
+      short = t.short;
+      most = t.most;
+      unmatched = unmatched-append h.match xs ys v.unmatched t.unmatched;
+      cut = refl;
+    };
+    ended = λ silent was. tt;
   }
 
 pub timed_out : {S T : Type 0} (request : Packet) (h : Hearing S) (shows : T → S) (wait tries : ℕ) (old : History) (part : List Step) → Vain request h wait tries old part → IsAsked request h shows tries wait asked.Timeout old part

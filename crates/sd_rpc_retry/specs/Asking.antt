@@ -6,7 +6,7 @@ use Rattle.sd_config.specs.Events.{fates_of}
 use Rattle.sd_link.specs.Parts.{got_in, ticks_in}
 use Rattle.sd_link.specs.Lawful.{SendsSettled}
 use Rattle.sd_link.specs.Link.{NothingWaits, IsSettledBy}
-use Rattle.sd_link.specs.Tries.{Hearing, AreUnmatched, RepliesAtOnce, EndsMatched, Answered, Flooded, TimedOut, flood_limit}
+use Rattle.sd_link.specs.Tries.{Hearing, AreUnmatched, RepliesAtOnce, EndsMatched, Answered, Flooded, TimedOut, FailsToHear, FailsToAsk, Failed, flood_limit}
 use Rattle.sd_rpc_retry.specs.Lasting.{StaysBefore}
 use Rattle.sd_rpc_retry.specs.declared.asking.Look.{Look}
 use Rattle.sd_rpc_retry.specs.declared.asking.Look.TheVariants.{Match, Reply, Other}
@@ -79,7 +79,7 @@ Found h shows until (heard.Found x) old part = IsReplied h part × EndsMatched h
 Found h shows until heard.Nothing old part =
     IsReplied h part × AreUnmatched h.match (got_in part) × (until ≤ (run old.config (world_of old) part).tick) × (length (got_in part) < flood_limit) × IsSettledBy old part
 Found h shows until heard.Flood old part = IsReplied h part × AreUnmatched h.match (got_in part) × (length (got_in part) ≡ flood_limit)
-Found h shows until heard.Fault old part = Unit {0}
+Found h shows until heard.Fault old part = FailsToHear h part × AreUnmatched h.match (got_in part) × (length (got_in part) ≤ flood_limit)
 
 -- what was heard until a tick
 pub record Hears {S T : Type 0} (h : Hearing S) (shows : T → S) (until : ℕ) (what : Heard T) (old : History) (part : List Step) : Type 0 where
@@ -107,11 +107,18 @@ pub record IsFlooded {S : Type 0} (h : Hearing S) (rest : List Step) : Type 0 wh
   pub unmatched : AreUnmatched h.match (got_in rest)
   pub many : length (got_in rest) ≡ flood_limit
 
+-- a try in which the network failed
+pub record IsFailed {S : Type 0} (request : Packet) (h : Hearing S) (wait : ℕ) (part : List Step) : Type 0 where
+  pub failed : FailsToAsk request h part
+  pub unmatched : AreUnmatched h.match (got_in part)
+  pub short : ticks_in part ≤ wait
+  pub most : length (got_in part) ≤ flood_limit
+
 abbrev pub Tried : {S T : Type 0} → Packet → Hearing S → (T → S) → ℕ → Heard T → History → List Step → Type 0
 Tried request h shows wait (heard.Found x) old part = IsTry request h wait (EndsMatched h.match (shows x)) part
 Tried request h shows wait heard.Nothing old part = IsTry request h wait (IsVain h wait) part × IsSettledBy old part
 Tried request h shows wait heard.Flood old part = IsTry request h wait (IsFlooded h) part
-Tried request h shows wait heard.Fault old part = Unit {0}
+Tried request h shows wait heard.Fault old part = IsFailed request h wait part
 
 -- ---- all tries
 
@@ -128,7 +135,7 @@ abbrev pub Came : {S T : Type 0} → Packet → Hearing S → (T → S) → ℕ 
 Came request h shows tries wait (asked.Answer x) old part = Answered (IsSettledBy old) request h tries wait (shows x) part
 Came request h shows tries wait asked.Timeout old part = TimedOut (IsSettledBy old) request h tries wait part
 Came request h shows tries wait asked.Flood old part = Flooded (IsSettledBy old) request h tries wait part
-Came request h shows tries wait asked.Fault old part = Unit {0}
+Came request h shows tries wait asked.Fault old part = Failed (IsSettledBy old) request h tries wait part
 
 -- how the asking ended, where nothing waited at its start
 abbrev pub EndsSettled : {T : Type 0} → Asked T → History → List Step → Type 0

@@ -17,13 +17,16 @@ use Rattle.sd_bootparams.specs.declared.message.BpArgs.{BpArgs}
 use Rattle.sd_bootparams.specs.declared.message.BpArgs.TheVariants as bp
 use Rattle.sd_bootparams.specs.Layout as bootparams
 use Rattle.sd_services.specs.RpcCalls.{spelled, auth_null}
-use Rattle.sd_services.specs.RpcReply.{pmap_port, address_in}
+use Rattle.sd_portmap.specs.Layout.{pmap_port}
+use Rattle.sd_services.specs.RpcReply.{address_in}
 use Rattle.sd_link.specs.Tries.{Hearing}
 use Rattle.sd_rpc_retry.specs.declared.calling.Ask.{Ask}
 use Rattle.sd_rpc_retry.specs.declared.calling.Ask.TheVariants as ask
 use Rattle.sd_rpc_retry.specs.declared.calling.Answer.{Answer}
 use Rattle.sd_rpc_retry.specs.declared.calling.Answer.TheVariants as answer
 use Rattle.sd_rpc_retry.specs.declared.calling.Caller.{Caller}
+use Rattle.sd_rpc_retry.specs.declared.question.Named.{Named}
+use Rattle.sd_rpc_retry.specs.declared.question.Located.{Located}
 
 -- ---- where calls go
 
@@ -144,6 +147,18 @@ answer_in (ask.Getfile client key) dst from results = option_map (getfile_in fro
 -- what a call comes to: an answer, or the number of a refusal
 abbrev pub Verdict : Type 0
 Verdict = Result Answer ℕ
+
+-- the same, where what is told has a type of its own, and shows an answer
+abbrev pub shown_as : {T : Type 0} → (T → Answer) → Result T ℕ → Verdict
+shown_as shown (Ok told) = Ok (shown told)
+shown_as shown (Err code) = Err code
+
+-- what WHOAMI tells, and what GETFILE tells
+abbrev pub named : Named → Answer
+named told = answer.Whoami told.from told.client told.domain told.router
+
+abbrev pub located : Located → Answer
+located told = answer.Getfile told.from told.server told.ip told.path
 
 abbrev pub verdict_of : Ask → Addr → ℕ → Said → Option Verdict
 verdict_of asked dst from (Ok results) = option_map Ok (answer_in asked dst from results)

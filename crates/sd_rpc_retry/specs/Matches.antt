@@ -19,7 +19,7 @@ use Rattle.sd_rpc_retry.specs.declared.calling.Ask.{Ask}
 use Rattle.sd_rpc_retry.specs.declared.calling.Ask.TheVariants as ask
 use Rattle.sd_rpc_retry.specs.declared.calling.Answer.{Answer}
 use Rattle.sd_rpc_retry.specs.declared.calling.Answer.TheVariants as answer
-use Rattle.sd_services.specs.RpcReply.{pmap_port}
+use Rattle.sd_portmap.specs.Layout.{pmap_port}
 use Rattle.sd_rpc_retry.specs.Calling.{Verdict, is_everyone, is_relayed, verdict_in}
 
 -- a result of bootparams, alone or in what a portmapper answers for PMAPPROC_CALLIT

@@ -1,10 +1,12 @@
 -- When a request was sent, and how often.
-use Rattle.std.specs.Prelude.{◌≡◌, ◌⊎◌, ℕ, zero, suc, ◌+◌, ◌*◌, ◌-◌, ◌^◌, ◌<◌, ◌≤◌, min, List, [], ◌∷◌, replicate, Result, Ok, Err}
+use Rattle.std.specs.Prelude.{◌≡◌, ◌⊎◌, ℕ, zero, suc, ◌+◌, ◌*◌, ◌-◌, ◌^◌, ◌<◌, ◌≤◌, min, List, [], ◌∷◌, replicate, Result, Ok, Err, Option}
+use Rattle.std.specs.List.{AllByRecursion}
+use Rattle.sd_link.specs.Link.{Moves}
 use Rattle.sd_outside.specs.declared.errors.NoMemory.{NoMemory}
 use Rattle.sd_outside.specs.declared.packet.Packet.{Packet}
 use Rattle.sd_config.specs.declared.config.Config.{Config}
 use Rattle.sd_link.specs.World.{World}
-use Rattle.sd_link.specs.Steps.{Step, Tick, Send, Serve, Data, End, Get, History, after, world_of}
+use Rattle.sd_link.specs.Steps.{Step, Send, History, after, world_of}
 use Rattle.sd_link.specs.Parts.{sends_in}
 use Rattle.sd_link.specs.Tries.{Hearing, flood_limit}
 use Rattle.sd_rpc_retry.specs.declared.asking.Heard.{Heard}
@@ -19,12 +21,8 @@ use Rattle.sd_rpc_retry.specs.Asking.{IsSilent}
 -- the ticks at which the client sends in these steps
 abbrev pub send_ticks : Config → World → List Step → List ℕ
 send_ticks c w [] = []
-send_ticks c w (Tick ∷ steps) = send_ticks c (after c w Tick) steps
 send_ticks c w (Send packet ∷ steps) = w.tick ∷ send_ticks c (after c w (Send packet)) steps
-send_ticks c w (Serve id ∷ steps) = send_ticks c (after c w (Serve id)) steps
-send_ticks c w (Data number ∷ steps) = send_ticks c (after c w (Data number)) steps
-send_ticks c w (End number ∷ steps) = send_ticks c (after c w (End number)) steps
-send_ticks c w (Get id packet ∷ steps) = send_ticks c (after c w (Get id packet)) steps
+send_ticks c w (step ∷ steps) = send_ticks c (after c w step) steps
 
 -- so many ticks: the first is this one, and each other one comes so long after the one before it
 abbrev pub every : ℕ → ℕ → ℕ → List ℕ
@@ -57,7 +55,23 @@ pub record IsTallied {S T : Type 0} (packet : Packet) (h : Hearing S) (wait : �
   pub last : IsLastOf wait tally old
   pub sent : IsSilent h → SentFor packet wait tally.sends what old part
 
+-- The link fails once where the answer is its fault, and else never.
+abbrev pub asked_fails : {T : Type 0} → Result (Asked T) NoMemory → ℕ
+asked_fails (Ok (asked.Answer x)) = 0
+asked_fails (Ok asked.Timeout) = 0
+asked_fails (Ok asked.Flood) = 0
+asked_fails (Ok asked.Fault) = 1
+asked_fails (Err none) = 0
+
 -- ---- a wait, and one try
+
+-- the same of these
+abbrev pub heard_fails : {T : Type 0} → Result (Heard T) NoMemory → ℕ
+heard_fails (Ok (heard.Found x)) = 0
+heard_fails (Ok heard.Nothing) = 0
+heard_fails (Ok heard.Flood) = 0
+heard_fails (Ok heard.Fault) = 1
+heard_fails (Err none) = 0
 
 -- the client sends nothing but for what it gets
 abbrev pub IsStill : {S : Type 0} → Hearing S → History → List Step → Type 0
@@ -69,6 +83,20 @@ SendsAtOnce packet part = (sends_in part ≡ []) ⊎ ((rest : List Step) × (par
 
 abbrev pub IsStillButFor : {S : Type 0} → Packet → Hearing S → History → List Step → Type 0
 IsStillButFor packet h old part = IsSilent h → SendsAtOnce packet part
+
+-- ---- whatever comes of it
+
+-- of each packet that the client sends in these steps P holds
+abbrev pub SendsOnly : (Packet → Type 0) → Option History → Option History → Type 0
+SendsOnly P old new = Moves old new (λ h part. AllByRecursion P (sends_in part))
+
+-- what is sent for some packet
+abbrev pub IsReply : {S : Type 0} → Hearing S → Packet → Type 0
+IsReply h sent = (packet : Packet) × (h.replies packet ≡ sent ∷ [])
+
+-- the request, or what is sent for some packet
+abbrev pub IsAsking : {S : Type 0} → Packet → Hearing S → Packet → Type 0
+IsAsking request h sent = (sent ≡ request) ⊎ IsReply h sent
 
 -- ---- over every link
 

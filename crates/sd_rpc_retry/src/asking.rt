@@ -1,11 +1,12 @@
 //! A request that is sent again and again until its answer comes.
-ghost use Rattle.std.specs.Prelude.{◌≡◌, ◌<◌, ◌≤◌, ◌+◌, ◌*◌, ℕ, IfOk, OnErr};
+ghost use Rattle.std.specs.Prelude.{◌≡◌, ◌<◌, ◌≤◌, ◌+◌, ◌*◌, ℕ, IfOk, OnErr, IfSome};
 ghost use Rattle.sd_outside.specs.Causes.{Rose};
-ghost use Rattle.sd_link.specs.Link.{Moves};
+ghost use Rattle.sd_link.specs.Steps.{IsLawfulSoFar};
+ghost use Rattle.sd_link.specs.Link.{Moves, IsReached, last_tick};
 ghost use Rattle.sd_link.specs.Tries.{Hearing};
-ghost use Rattle.sd_rpc_retry.specs.Lasting.{Lasts, StaysBefore, most_asking_ticks};
+ghost use Rattle.sd_rpc_retry.specs.Lasting.{Lasts, Fails, StaysBefore, most_asking_ticks};
 ghost use Rattle.sd_rpc_retry.specs.Asking.{Looks, IsNoMatch, IsNotFound, IsHeardFault, IsFound, Hears, Tried, IsNoAnswer, IsAnswer, IsAskedFault, IsAsked};
-ghost use Rattle.sd_rpc_retry.specs.Sending.{IsStill, IsStillButFor, HandedIn, HandedFor, WaitedIn, WaitedFor, IsTallied};
+ghost use Rattle.sd_rpc_retry.specs.Sending.{IsStill, IsStillButFor, HandedIn, HandedFor, WaitedIn, WaitedFor, IsTallied, heard_fails, asked_fails, SendsOnly, IsReply, IsAsking};
 
 use sd_link::{Link, LinkError};
 use sd_outside::{NoMemory, Packet};
@@ -82,6 +83,8 @@ fn listen<L: Link, H: Listener>(
     ensures later { L.clock link.old ≤ L.clock link.new }
     ensures found { IfOk result (IsFound (H.hearing listener.old) (H.shows listener.new)) }
     ensures same { IfOk result (λ heard. IsNotFound heard → listener.new ≡ listener.old) }
+    ensures fails { Fails (heard_fails result) (L.told link.old) (L.told link.new) }
+    ensures sends { SendsOnly (IsReply (H.hearing listener.old)) (L.told link.old) (L.told link.new) }
     ensures fault { IfOk result (λ heard. IsHeardFault heard → Rose (L.faults link.old) (L.faults link.new)) }
     ensures faults { L.faults link.old ≤ L.faults link.new }
     ensures drained { L.drained link.new ≡ L.drained link.old }
@@ -114,6 +117,7 @@ fn try_once<L: Link, H: Listener>(
     wait: u64,
 ) -> Result<Heard<H::Found>, NoMemory>
     requires { wait ≤ 1000 }
+    ensures reached { IfSome (L.told link.old) IsReached }
     ensures told { IfOk result (λ heard. Moves (L.told link.old) (L.told link.new) (Tried request.now (H.hearing listener.old) (H.shows listener.new) wait heard)) }
     ensures goes { Lasts 1000 (L.told link.old) (L.told link.new) }
     ensures still { Moves (L.told link.old) (L.told link.new) (IsStillButFor request.now (H.hearing listener.old)) }
@@ -123,6 +127,8 @@ fn try_once<L: Link, H: Listener>(
     ensures later { L.clock link.old ≤ L.clock link.new }
     ensures found { IfOk result (IsFound (H.hearing listener.old) (H.shows listener.new)) }
     ensures same { IfOk result (λ heard. IsNotFound heard → listener.new ≡ listener.old) }
+    ensures fails { Fails (heard_fails result) (L.told link.old) (L.told link.new) }
+    ensures sends { SendsOnly (IsAsking request.now (H.hearing listener.old)) (L.told link.old) (L.told link.new) }
     ensures fault { IfOk result (λ heard. IsHeardFault heard → Rose (L.faults link.old) (L.faults link.new)) }
     ensures faults { L.faults link.old ≤ L.faults link.new }
     ensures drained { L.drained link.new ≡ L.drained link.old }
@@ -158,10 +164,21 @@ pub fn ask<L: Link, H: Listener>(
     ensures told { IfOk result (λ asked. Moves (L.told link.old) (L.told link.new) (IsAsked request.now (H.hearing listener.old) (H.shows listener.new) tries wait asked)) }
     // Over every link an answer is what some packet means.
     ensures found { IfOk result (IsAnswer (H.hearing listener.old) (H.shows listener.new)) }
+    // It needs a packet, a flood its packets, and a timeout the whole time.
+    ensures handed { IfOk result (λ asked. HandedFor asked (L.handed link.old) (L.handed link.new)) }
+    ensures waited { IfOk result (λ asked. WaitedFor (tries * wait) asked (L.clock link.old) (L.clock link.new)) }
+    ensures counts { L.handed link.old ≤ L.handed link.new }
+    ensures later { L.clock link.old ≤ L.clock link.new }
     // Only an answer changes the listener.
     ensures same { IfOk result (λ asked. IsNoAnswer asked → listener.new ≡ listener.old) }
     // Whatever comes of it, a link that tells goes on telling.
     ensures lasts { Lasts most_asking_ticks (L.told link.old) (L.told link.new) }
+    // A link that was asked tells a history that may happen.
+    ensures lawful { 0 < tries → IfOk result (λ asked. IfSome (L.told link.old) IsLawfulSoFar) }
+    // The client sends the request, and what the listener makes of packets, and nothing else.
+    ensures sends { SendsOnly (IsAsking request.now (H.hearing listener.old)) (L.told link.old) (L.told link.new) }
+    // The link failed exactly where the answer says so, and then its count of faults rose.
+    ensures fails { Fails (asked_fails result) (L.told link.old) (L.told link.new) }
     ensures fault { IfOk result (λ asked. IsAskedFault asked → Rose (L.faults link.old) (L.faults link.new)) }
     ensures faults { L.faults link.old ≤ L.faults link.new }
     ensures drained { L.drained link.new ≡ L.drained link.old }
@@ -188,6 +205,7 @@ pub fn ask_counting<L: Link, H: Listener>(
     // Over every link the last send was in between.
     ensures began { 0 < tally.new.sends → L.clock link.old ≤ tally.new.last }
     ensures ended { 0 < tally.new.sends → tally.new.last ≤ L.clock link.new }
+    ensures low { tally.new.last ≤ last_tick }
     ensures once { 0 < tries → 0 < tally.new.sends }
     // Over every link an answer needs a packet, a flood its packets, and a timeout the whole time.
     ensures handed { IfOk result (λ asked. HandedFor asked (L.handed link.old) (L.handed link.new)) }
@@ -197,6 +215,9 @@ pub fn ask_counting<L: Link, H: Listener>(
     ensures found { IfOk result (IsAnswer (H.hearing listener.old) (H.shows listener.new)) }
     ensures same { IfOk result (λ asked. IsNoAnswer asked → listener.new ≡ listener.old) }
     ensures lasts { Lasts most_asking_ticks (L.told link.old) (L.told link.new) }
+    ensures lawful { 0 < tries → IfOk result (λ asked. IfSome (L.told link.old) IsLawfulSoFar) }
+    ensures fails { Fails (asked_fails result) (L.told link.old) (L.told link.new) }
+    ensures sends { SendsOnly (IsAsking request.now (H.hearing listener.old)) (L.told link.old) (L.told link.new) }
     ensures fault { IfOk result (λ asked. IsAskedFault asked → Rose (L.faults link.old) (L.faults link.new)) }
     ensures faults { L.faults link.old ≤ L.faults link.new }
     ensures drained { L.drained link.new ≡ L.drained link.old }

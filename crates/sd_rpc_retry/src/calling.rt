@@ -1,15 +1,16 @@
 //! Calls of procedures on other machines, and their answers.
 ghost use Rattle.std.specs.Prelude.{◌≡◌, ◌<◌, ◌≤◌, ◌+◌, ◌*◌, ◌-◌, ◌^◌, length, IfOk, Err};
 ghost use Rattle.sd_outside.specs.Causes.{Rose};
-ghost use Rattle.sd_link.specs.Link.{Moves};
+ghost use Rattle.sd_link.specs.Link.{Moves, last_tick};
 ghost use Rattle.sd_rpc_retry.specs.declared.calling.CallError.TheVariants as error;
-ghost use Rattle.sd_rpc_retry.specs.Lasting.{Lasts, most_asking_ticks};
+ghost use Rattle.sd_rpc_retry.specs.Lasting.{Lasts, Fails, most_asking_ticks};
 ghost use Rattle.sd_rpc_retry.specs.Asking.{IsAskedFault};
-ghost use Rattle.sd_rpc_retry.specs.Sending.{HandedFor, WaitedFor};
+ghost use Rattle.sd_rpc_retry.specs.Sending.{HandedFor, WaitedFor, asked_fails};
 ghost use Rattle.sd_rpc_retry.specs.Calling.{AskFits};
-ghost use Rattle.sd_rpc_retry.specs.Calls.{asked_as, tally_of, CameOf, WasSent, IsTold, IsAnswerTo, IsAnsweredBy};
+ghost use Rattle.sd_rpc_retry.specs.Calls.{asked_as, CameOf, WasSent, IsTold, IsAnswerTo};
 
 use crate::asking::{Asked, Tally, ask_counting};
+use crate::question::Question;
 use crate::reply::ReplyListener;
 use sd_link::Link;
 use sd_outside::{Addr, ByteList, NoMemory};
@@ -63,17 +64,6 @@ pub enum CallError {
     NoMemory,
 }
 
-/// What came of a call.
-#[derive(Debug, Drop)]
-pub struct Called {
-    /// What was answered.
-    pub answer: Result<Answer, CallError>,
-    /// How many sends were tried. One that the link refused counts too.
-    pub sends: u32,
-    /// The tick before the last of them, or 0 where there was none.
-    pub last: u64,
-}
-
 /// Who calls.
 #[derive(Debug, Drop)]
 pub struct Caller {
@@ -91,12 +81,11 @@ pub struct Caller {
 }
 
 /// The answer that came of asking.
-fn answer_of(asked: Result<Asked<Result<Answer, u32>>, NoMemory>) -> Result<Answer, CallError>
-    ensures as_asked { asked_as result ≡ asked }
-    ensures answers { (what : Ask) → IfOk asked (IsAnsweredBy what) → IfOk result (IsAnswerTo what) }
+fn answer_of<T>(asked: Result<Asked<Result<T, u32>>, NoMemory>) -> Result<T, CallError>
+    ensures { asked_as result ≡ asked }
 {
     match asked {
-        Ok(Asked::Answer(Ok(answer))) => Ok(answer),
+        Ok(Asked::Answer(Ok(told))) => Ok(told),
         Ok(Asked::Answer(Err(code))) => Err(CallError::Denied { code }),
         Ok(Asked::Timeout) => Err(CallError::Timeout),
         Ok(Asked::Flood) => Err(CallError::Flood),
@@ -107,86 +96,92 @@ fn answer_of(asked: Result<Asked<Result<Answer, u32>>, NoMemory>) -> Result<Answ
 
 impl Caller {
     /// Sends the call that is next, and waits for its reply.
-    fn send_call<L: Link>(
+    fn send_call<L: Link, Q: Question>(
         &self,
         alloc: Global,
         link: &mut L,
         dst: Addr,
-        asked: &Ask,
+        question: &Q,
         tally: &mut Tally,
-    ) -> Result<Asked<Result<Answer, u32>>, NoMemory>
+    ) -> Result<Asked<Result<Q::Told, u32>>, NoMemory>
         requires tries { self.now.tries ≤ 64 }
         requires wait { self.now.wait ≤ 1000 }
-        requires fits { AskFits asked.now }
-        ensures told { IfOk result (λ came. Moves (L.told link.old) (L.told link.new) (CameOf self.now dst asked.now came)) }
-        ensures tallied { Moves (L.told link.old) (L.told link.new) (WasSent self.now dst asked.now tally.new result) }
-        ensures found { IfOk result (IsTold self.now dst asked.now) }
-        ensures answers { IfOk result (IsAnsweredBy asked.now) }
+        requires fits { AskFits (Q.ask question.now) }
+        ensures told { IfOk result (λ came. Moves (L.told link.old) (L.told link.new) (CameOf self.now dst (Q.ask question.now) Q.shown came)) }
+        ensures tallied { Moves (L.told link.old) (L.told link.new) (WasSent self.now dst (Q.ask question.now) tally.new result) }
+        ensures found { IfOk result (IsTold self.now dst (Q.ask question.now) Q.shown) }
         ensures most { tally.new.sends ≤ self.now.tries }
         ensures began { 0 < tally.new.sends → L.clock link.old ≤ tally.new.last }
         ensures ended { 0 < tally.new.sends → tally.new.last ≤ L.clock link.new }
+        ensures low { tally.new.last ≤ last_tick }
         ensures handed { IfOk result (λ came. HandedFor came (L.handed link.old) (L.handed link.new)) }
         ensures waited { IfOk result (λ came. WaitedFor (self.now.tries * self.now.wait) came (L.clock link.old) (L.clock link.new)) }
         ensures counts { L.handed link.old ≤ L.handed link.new }
         ensures later { L.clock link.old ≤ L.clock link.new }
         ensures lasts { Lasts most_asking_ticks (L.told link.old) (L.told link.new) }
+        ensures fails { Fails (asked_fails result) (L.told link.old) (L.told link.new) }
         ensures fault { IfOk result (λ came. IsAskedFault came → Rose (L.faults link.old) (L.faults link.new)) }
         ensures faults { L.faults link.old ≤ L.faults link.new }
         ensures drained { L.drained link.new ≡ L.drained link.old }
     {
         *tally = Tally { sends: 0, last: 0 };
-        let request = self.request(alloc, dst, asked)?;
+        let request = self.request(alloc, dst, question)?;
         let mut listener = ReplyListener {
             alloc,
             me: self.home(),
             xid: self.next_xid,
             dst,
-            asked,
+            question,
         };
         ask_counting(link, &request, &mut listener, self.tries, self.wait, tally)
     }
 
     /// Calls a procedure there, and takes the first reply that tells something. Each call takes one number, also where memory is
-    /// wanting.
+    /// wanting. The question's type says what is answered; how often the call was sent, and when last, stands in `tally`.
     ///
     /// A reply goes to the caller's address and port, has the number of the call, comes from `dst`, or from port 111 of any
     /// machine where `dst` is 255.255.255.255, and its results are those of the procedure. What is asked of bootparams is
     /// relayed by a portmapper where `dst` is its port or a broadcast.
-    pub fn call<L: Link>(&mut self, alloc: Global, link: &mut L, dst: Addr, ask: &Ask) -> Called
+    pub fn call<L: Link, Q: Question>(
+        &mut self,
+        alloc: Global,
+        link: &mut L,
+        dst: Addr,
+        question: &Q,
+        tally: &mut Tally,
+    ) -> Result<Q::Told, CallError>
         requires xid { self.old.next_xid < 2 ^ 32 - 1 }
         requires tries { self.old.tries ≤ 64 }
         requires wait { self.old.wait ≤ 1000 }
         requires machine { length self.old.machine ≤ 255 }
-        requires fits { AskFits ask.now }
+        requires fits { AskFits (Q.ask question.now) }
         ensures xid { self.new ≡ record self.old { next_xid = self.old.next_xid + 1 } }
-        // Over a link that tells, this came of the call: all tries in vain, a flood in one, or what the first match tells.
-        ensures told { IfOk (asked_as result.answer) (λ came. Moves (L.told link.old) (L.told link.new) (CameOf self.old dst ask.now came)) }
+        // Over a link that tells, this came of the call: all tries in vain, a flood in one, a failure, or what the first match tells.
+        ensures told { IfOk (asked_as result) (λ came. Moves (L.told link.old) (L.told link.new) (CameOf self.old dst (Q.ask question.now) Q.shown came)) }
         // It was sent so often, at once and then every `wait` ticks, whatever came of it.
-        ensures tallied { Moves (L.told link.old) (L.told link.new) (WasSent self.old dst ask.now (tally_of result) (asked_as result.answer)) }
-        ensures most { result.sends ≤ self.old.tries }
+        ensures tallied { Moves (L.told link.old) (L.told link.new) (WasSent self.old dst (Q.ask question.now) tally.new (asked_as result)) }
+        ensures most { tally.new.sends ≤ self.old.tries }
         // Over every link an answer and a refusal are what some packet tells.
-        ensures found { IfOk (asked_as result.answer) (IsTold self.old dst ask.now) }
-        // An answer is of the kind that was asked for, and its texts are within their limits.
-        ensures answers { IfOk result.answer (IsAnswerTo ask.now) }
+        ensures found { IfOk (asked_as result) (IsTold self.old dst (Q.ask question.now) Q.shown) }
+        // The texts of an answer are within their limits.
+        ensures answers { IfOk result (λ told. IsAnswerTo (Q.ask question.now) (Q.shown told)) }
         // They need a packet, a flood its packets, and a timeout the whole time.
-        ensures handed { IfOk (asked_as result.answer) (λ came. HandedFor came (L.handed link.old) (L.handed link.new)) }
-        ensures waited { IfOk (asked_as result.answer) (λ came. WaitedFor (self.old.tries * self.old.wait) came (L.clock link.old) (L.clock link.new)) }
-        ensures began { 0 < result.sends → L.clock link.old ≤ result.last }
-        ensures ended { 0 < result.sends → result.last ≤ L.clock link.new }
+        ensures handed { IfOk (asked_as result) (λ came. HandedFor came (L.handed link.old) (L.handed link.new)) }
+        ensures waited { IfOk (asked_as result) (λ came. WaitedFor (self.old.tries * self.old.wait) came (L.clock link.old) (L.clock link.new)) }
+        ensures began { 0 < tally.new.sends → L.clock link.old ≤ tally.new.last }
+        ensures ended { 0 < tally.new.sends → tally.new.last ≤ L.clock link.new }
+        ensures low { tally.new.last ≤ last_tick }
         ensures counts { L.handed link.old ≤ L.handed link.new }
         ensures later { L.clock link.old ≤ L.clock link.new }
         ensures lasts { Lasts most_asking_ticks (L.told link.old) (L.told link.new) }
-        ensures fault { result.answer ≡ Err error.LinkFault → Rose (L.faults link.old) (L.faults link.new) }
+        // The link failed exactly where the answer says so, and then its count of faults rose.
+        ensures fails { Fails (asked_fails (asked_as result)) (L.told link.old) (L.told link.new) }
+        ensures fault { result ≡ Err error.LinkFault → Rose (L.faults link.old) (L.faults link.new) }
         ensures faults { L.faults link.old ≤ L.faults link.new }
         ensures drained { L.drained link.new ≡ L.drained link.old }
     {
-        let mut tally = Tally { sends: 0, last: 0 };
-        let asked = self.send_call(alloc, link, dst, ask, &mut tally);
+        let asked = self.send_call(alloc, link, dst, question, tally);
         self.next_xid += 1;
-        Called {
-            answer: answer_of(asked),
-            sends: tally.sends,
-            last: tally.last,
-        }
+        answer_of(asked)
     }
 }

@@ -5,17 +5,19 @@
 //! sent, and when last.
 //!
 //! `Caller::call` asks a portmapper or bootparams. What it sends is the call that the grammars spell, each time with the same
-//! bytes, and what it answers is what the first reply tells; `verdict_is_match` says which datagrams are replies.
+//! bytes, and what it answers is what the first reply tells, in the type of its `Question`; `verdict_is_match` says which datagrams are replies.
 #![tactic(auto)]
 
 mod asking;
 mod calling;
 mod laws;
+mod question;
 mod reply;
 mod request;
 #[cfg(test)]
 mod tests;
 
 pub use asking::{Asked, FLOOD, Heard, Listener, Look, Tally, ask, ask_counting};
-pub use calling::{Answer, Ask, CallError, Called, Caller};
+pub use calling::{Answer, Ask, CallError, Caller};
 pub use laws::verdict_is_match;
+pub use question::{Getfile, Getport, Located, Named, Question, Whoami};

@@ -7,15 +7,15 @@ ghost use Rattle.sd_rpc_msg.specs.Laws.{IsMessage, IsOutcome};
 ghost use Rattle.sd_portmap.specs.Layout as portmap;
 ghost use Rattle.sd_bootparams.specs.Layout as bootparams;
 ghost use Rattle.sd_services.specs.RpcCalls.{spelled};
-ghost use Rattle.sd_rpc_retry.specs.Calling.{port_in, whoami_in, getfile_in, reply_says, message_says, and_then, verdict_of, answer_in, bootparams_says, comes_from, is_at};
+ghost use Rattle.sd_rpc_retry.specs.Calling.{reply_says, message_says, and_then, verdict_of, shown_as, bootparams_says, comes_from, is_at};
 ghost use Rattle.sd_rpc_retry.specs.Reading.{IsKnown};
 
 use crate::asking::{Listener, Look};
-use crate::calling::{Answer, Ask};
-use crate::request::{PMAP_PORT, is_everyone, is_relayed};
+use crate::question::Question;
+use crate::request::is_everyone;
 use sd_bootparams::{BpResult, read_bp_result};
 use sd_outside::{Addr, ByteList, NoMemory, Packet};
-use sd_portmap::{PmapResult, read_pmap_result};
+use sd_portmap::{PMAP_PORT, PmapResult, read_pmap_result};
 use sd_rpc_msg::{Message, MsgError, Outcome, read_message};
 use std::alloc::Global;
 
@@ -41,7 +41,11 @@ fn message_in(alloc: Global, bytes: &[u8]) -> Result<Option<Message>, NoMemory>
 }
 
 /// The result of a procedure of the portmapper that the bytes spell.
-fn pmap_result_in(alloc: Global, proc_no: u32, bytes: &[u8]) -> Result<Option<PmapResult>, NoMemory>
+pub(crate) fn pmap_result_in(
+    alloc: Global,
+    proc_no: u32,
+    bytes: &[u8],
+) -> Result<Option<PmapResult>, NoMemory>
     requires { proc_no ≤ 5 }
     ensures value { IfOk result (λ found. option_map portmap.result_value found ≡ spelled (portmap.result_kind proc_no) bytes.now) }
     ensures of_proc { IfOk result (λ found. IfSome found (portmap.IsResultOf proc_no)) }
@@ -60,7 +64,7 @@ fn bp_result_in(alloc: Global, proc_no: u32, bytes: &[u8]) -> Result<Option<BpRe
 }
 
 /// The result of a procedure of bootparams that these results spell, in those of PMAPPROC_CALLIT where a portmapper relays it.
-fn bootparams_result_in(
+pub(crate) fn bootparams_result_in(
     alloc: Global,
     proc_no: u32,
     relayed: bool,
@@ -99,65 +103,9 @@ fn said_by(outcome: Outcome) -> Result<ByteList, u32>
     }
 }
 
-/// The port in a result of PMAPPROC_GETPORT.
-fn port_in(alloc: Global, results: &[u8]) -> Result<Option<Answer>, NoMemory>
-    ensures { IfOk result (λ found. found ≡ port_in (spelled (portmap.result_kind 3) results.now)) }
-{
-    match pmap_result_in(alloc, 3, results)? {
-        Some(PmapResult::Port(port)) => Ok(Some(Answer::Port(port as u16))),
-        _ => Ok(None),
-    }
-}
-
-/// What a result of BOOTPARAMPROC_WHOAMI tells.
-fn whoami_in(
-    alloc: Global,
-    from: u32,
-    relayed: bool,
-    results: &[u8],
-) -> Result<Option<Answer>, NoMemory>
-    ensures { IfOk result (λ found. found ≡ option_map (whoami_in from) (bootparams_says 1 relayed results.now)) }
-{
-    match bootparams_result_in(alloc, 1, relayed, results)? {
-        Some(
-            BpResult::Whoami {
-                client,
-                domain,
-                router,
-            },
-        ) => Ok(Some(Answer::Whoami {
-            from,
-            client,
-            domain,
-            router,
-        })),
-        _ => Ok(None),
-    }
-}
-
-/// What a result of BOOTPARAMPROC_GETFILE tells.
-fn getfile_in(
-    alloc: Global,
-    from: u32,
-    relayed: bool,
-    results: &[u8],
-) -> Result<Option<Answer>, NoMemory>
-    ensures { IfOk result (λ found. found ≡ option_map (getfile_in from) (bootparams_says 2 relayed results.now)) }
-{
-    match bootparams_result_in(alloc, 2, relayed, results)? {
-        Some(BpResult::Getfile { server, ip, path }) => Ok(Some(Answer::Getfile {
-            from,
-            server,
-            ip,
-            path,
-        })),
-        _ => Ok(None),
-    }
-}
-
 /// Who waits for the reply to a call.
 #[derive(Drop)]
-pub(crate) struct ReplyListener<'a> {
+pub(crate) struct ReplyListener<'a, Q> {
     pub alloc: Global,
     /// Where the caller is.
     pub me: Addr,
@@ -166,21 +114,21 @@ pub(crate) struct ReplyListener<'a> {
     /// Where the call went.
     pub dst: Addr,
     /// What was asked.
-    pub asked: &'a Ask,
+    pub question: &'a Q,
 }
 
-impl Listener for ReplyListener<'_> {
-    ghost use Rattle.sd_rpc_retry.specs.Calling.{Verdict, reply_hearing};
+impl<Q: Question> Listener for ReplyListener<'_, Q> {
+    ghost use Rattle.sd_rpc_retry.specs.Calling.{Verdict, reply_hearing, shown_as};
 
-    type Found = Result<Answer, u32>;
+    type Found = Result<Q::Told, u32>;
 
     ghost Seen = { Verdict };
 
-    ghost hearing = { λ listener. reply_hearing listener.me listener.xid listener.dst listener.asked.now };
+    ghost hearing = { λ listener. reply_hearing listener.me listener.xid listener.dst (Q.Question.ask listener.question.now) };
 
-    ghost shows = { λ listener found. found };
+    ghost shows = { λ listener found. shown_as Q.Question.shown found };
 
-    fn look(&mut self, packet: &Packet) -> Result<Look<Result<Answer, u32>>, NoMemory> {
+    fn look(&mut self, packet: &Packet) -> Result<Look<Result<Q::Told, u32>>, NoMemory> {
         let Packet::Udp { src, dst, body } = packet else {
             return Ok(Look::Other);
         };
@@ -194,7 +142,7 @@ impl Listener for ReplyListener<'_> {
     }
 }
 
-impl ReplyListener<'_> {
+impl<Q: Question> ReplyListener<'_, Q> {
     /// Whether a datagram goes to the caller, and comes from where the call went. To a broadcast the portmapper of any machine
     /// may reply.
     fn is_addressed(&self, src: Addr, dst: Addr) -> bool
@@ -209,20 +157,9 @@ impl ReplyListener<'_> {
         src.ip == self.dst.ip && src.port == self.dst.port
     }
 
-    /// What results from this address tell.
-    fn answer(&self, from: u32, results: &[u8]) -> Result<Option<Answer>, NoMemory>
-        ensures { IfOk result (λ found. found ≡ answer_in self.now.asked.now self.now.dst from results.now) }
-    {
-        match self.asked {
-            Ask::Getport { .. } => port_in(self.alloc, results),
-            Ask::Whoami { .. } => whoami_in(self.alloc, from, is_relayed(self.dst), results),
-            Ask::Getfile { .. } => getfile_in(self.alloc, from, is_relayed(self.dst), results),
-        }
-    }
-
     /// What a datagram's body from this address tells.
-    fn verdict(&self, from: u32, body: &[u8]) -> Result<Option<Result<Answer, u32>>, NoMemory>
-        ensures { IfOk result (λ found. found ≡ and_then (and_then (spelled message body.now) (message_says self.now.xid)) (verdict_of self.now.asked.now self.now.dst from)) }
+    fn verdict(&self, from: u32, body: &[u8]) -> Result<Option<Result<Q::Told, u32>>, NoMemory>
+        ensures { IfOk result (λ found. option_map (shown_as Q.shown) found ≡ and_then (and_then (spelled message body.now) (message_says self.now.xid)) (verdict_of (Q.ask self.now.question.now) self.now.dst from)) }
     {
         let reply = match message_in(self.alloc, body)? {
             Some(Message::Answered(reply)) => reply,
@@ -232,8 +169,11 @@ impl ReplyListener<'_> {
             return Ok(None);
         }
         match said_by(reply.outcome) {
-            Ok(results) => match self.answer(from, results.as_slice())? {
-                Some(answer) => Ok(Some(Ok(answer))),
+            Ok(results) => match self
+                .question
+                .told(self.alloc, self.dst, from, results.as_slice())?
+            {
+                Some(told) => Ok(Some(Ok(told))),
                 None => Ok(None),
             },
             Err(code) => Ok(Some(Err(code))),

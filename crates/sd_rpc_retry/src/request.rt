@@ -1,20 +1,18 @@
 //! What is sent for a call.
 ghost use Rattle.std.specs.Prelude.{◌≡◌, ◌≤◌, ◌<◌, ◌^◌, length, IfOk};
 ghost use Rattle.sd_rpc_msg.specs.Layout.{AuthFits};
-ghost use Rattle.sd_portmap.specs.declared.message.PmapArgs.TheVariants as pmap;
 ghost use Rattle.sd_bootparams.specs.Layout as bootparams;
 ghost use Rattle.sd_services.specs.RpcCalls.{auth_null};
-ghost use Rattle.sd_rpc_retry.specs.Calling.{is_everyone, is_relayed, call_of, pmap_call, bootparams_call, call_for, AskFits, request, home};
+ghost use Rattle.sd_rpc_retry.specs.declared.calling.Ask.TheVariants as asks;
+ghost use Rattle.sd_rpc_retry.specs.Calling.{is_everyone, is_relayed, call_of, bootparams_call, call_for, AskFits, request, home};
 
-use crate::calling::{Ask, Caller};
+use crate::calling::Caller;
+use crate::question::Question;
 use sd_bootparams::{BpArgs, write_bp_args};
-use sd_outside::{Addr, ByteList, NoMemory, Packet};
-use sd_portmap::{Mapping, PmapArgs, write_pmap_args};
+use sd_outside::{Addr, BROADCAST_IP, ByteList, NoMemory, Packet};
+use sd_portmap::{Mapping, PMAP_PORT, PmapArgs, write_pmap_args};
 use sd_rpc_msg::{Call, Message, OpaqueAuth, write_message};
 use std::alloc::Global;
-
-/// The portmapper's port (RFC 1057, appendix A).
-pub(crate) const PMAP_PORT: u16 = 111;
 
 /// IP's number for UDP.
 const IPPROTO_UDP: u32 = 17;
@@ -23,7 +21,7 @@ const IPPROTO_UDP: u32 = 17;
 pub(crate) fn is_everyone(dst: Addr) -> bool
     ensures { result ≡ is_everyone dst }
 {
-    dst.ip == u32::MAX
+    dst.ip == BROADCAST_IP
 }
 
 /// Whether a portmapper relays what is called there.
@@ -59,8 +57,14 @@ fn call_of(alloc: Global, xid: u32, prog: u32, vers: u32, proc_no: u32, args: By
 }
 
 /// A call of PMAPPROC_GETPORT.
-fn getport_call(alloc: Global, xid: u32, prog: u32, vers: u32) -> Result<Call, NoMemory>
-    ensures { IfOk result (λ call. call ≡ pmap_call xid (pmap.Getport (record { prog = prog; vers = vers; prot = 17; port = 0 }))) }
+pub(crate) fn getport_call(
+    alloc: Global,
+    xid: u32,
+    dst: Addr,
+    prog: u32,
+    vers: u32,
+) -> Result<Call, NoMemory>
+    ensures { IfOk result (λ call. call ≡ call_for xid dst (asks.Getport prog vers)) }
 {
     let mapping = Mapping {
         prog,
@@ -107,24 +111,29 @@ fn bootparams_call(
     Ok(call_of(alloc, xid, 100_000, 2, 5, args))
 }
 
-/// The call for what is asked.
-fn call_for(alloc: Global, xid: u32, dst: Addr, asked: &Ask) -> Result<Call, NoMemory>
-    requires { AskFits asked.now }
-    ensures { IfOk result (λ call. call ≡ call_for xid dst asked.now) }
+/// A call of BOOTPARAMPROC_WHOAMI.
+pub(crate) fn whoami_call(alloc: Global, xid: u32, dst: Addr, ip: u32) -> Result<Call, NoMemory>
+    ensures { IfOk result (λ call. call ≡ call_for xid dst (asks.Whoami ip)) }
 {
-    match asked {
-        Ask::Getport { prog, vers } => getport_call(alloc, xid, *prog, *vers),
-        Ask::Whoami { ip } => {
-            let args = BpArgs::Whoami { ip: *ip };
-            bootparams_call(alloc, xid, is_relayed(dst), 1, &args)
-        }
-        Ask::Getfile { client, key } => {
-            let client = client.copy()?;
-            let key = key.copy()?;
-            let args = BpArgs::Getfile { client, key };
-            bootparams_call(alloc, xid, is_relayed(dst), 2, &args)
-        }
-    }
+    let args = BpArgs::Whoami { ip };
+    bootparams_call(alloc, xid, is_relayed(dst), 1, &args)
+}
+
+/// A call of BOOTPARAMPROC_GETFILE.
+pub(crate) fn getfile_call(
+    alloc: Global,
+    xid: u32,
+    dst: Addr,
+    client: &ByteList,
+    key: &ByteList,
+) -> Result<Call, NoMemory>
+    requires { AskFits (asks.Getfile client.now key.now) }
+    ensures { IfOk result (λ call. call ≡ call_for xid dst (asks.Getfile client.now key.now)) }
+{
+    let client = client.copy()?;
+    let key = key.copy()?;
+    let args = BpArgs::Getfile { client, key };
+    bootparams_call(alloc, xid, is_relayed(dst), 2, &args)
 }
 
 impl Caller {
@@ -139,11 +148,16 @@ impl Caller {
     }
 
     /// The datagram that is sent for what is asked.
-    pub(crate) fn request(&self, alloc: Global, dst: Addr, asked: &Ask) -> Result<Packet, NoMemory>
-        requires { AskFits asked.now }
-        ensures { IfOk result (λ packet. packet ≡ request self.now dst asked.now) }
+    pub(crate) fn request<Q: Question>(
+        &self,
+        alloc: Global,
+        dst: Addr,
+        question: &Q,
+    ) -> Result<Packet, NoMemory>
+        requires { AskFits (Q.ask question.now) }
+        ensures { IfOk result (λ packet. packet ≡ request self.now dst (Q.ask question.now)) }
     {
-        let call = call_for(alloc, self.next_xid, dst, asked)?;
+        let call = question.call(alloc, self.next_xid, dst)?;
         let body = write_message(alloc, &Message::Asked(call))?;
         let src = self.home();
         Ok(Packet::Udp { src, dst, body })

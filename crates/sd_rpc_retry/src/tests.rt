@@ -52,8 +52,8 @@ fn text_of(bytes: &ByteList) -> Result<&str, Fail> {
 }
 
 /// What came of a call, its sends and its last tick.
-fn shown(alloc: Global, called: &Called) -> Result<String, Fail> {
-    let answer = match &called.answer {
+fn shown(alloc: Global, answer: &Result<Answer, CallError>, tally: Tally) -> Result<String, Fail> {
+    let answer = match answer {
         Ok(Answer::Port(port)) => format!(in alloc; "port {port}")?,
         Ok(
             Answer::Whoami {
@@ -81,7 +81,7 @@ fn shown(alloc: Global, called: &Called) -> Result<String, Fail> {
         }
         Err(why) => format!(in alloc; "{why:?}")?,
     };
-    Ok(format!(in alloc; "{answer} {} {}", called.sends, called.last)?)
+    Ok(format!(in alloc; "{answer} {} {}", tally.sends, tally.last)?)
 }
 
 /// What comes of each row's datagrams, which all come at tick 1.
@@ -109,8 +109,9 @@ fn check(rt: &impl Abort, alloc: Global, dst: Addr, ask: &Ask, rows: &[Row]) -> 
                 && caller.wait == 5
                 && caller.machine.as_slice().is_empty()
         );
-        let called = caller.call(alloc, &mut link, dst, ask);
-        assert_eq!(rt; shown(alloc, &called)?.as_str(), *comes);
+        let mut tally = Tally { sends: 0, last: 0 };
+        let answer = caller.call(alloc, &mut link, dst, ask, &mut tally);
+        assert_eq!(rt; shown(alloc, &answer, tally)?.as_str(), *comes);
         assert_eq!(rt; caller.next_xid, 8);
     }
     Ok(())
@@ -220,9 +221,10 @@ fn check_ends(rt: &impl Abort, alloc: Global, ask: &Ask, ends: &[End]) -> Result
         };
         let mut link = MemLink::new(alloc, inbox, fail)?;
         let mut caller = caller(alloc, 4)?;
-        let called = caller.call(alloc, &mut link, PORTMAPPER, ask);
+        let mut tally = Tally { sends: 0, last: 0 };
+        let answer = caller.call(alloc, &mut link, PORTMAPPER, ask, &mut tally);
         assert_eq!(rt;
-            shown(alloc, &called)?.as_str(),
+            shown(alloc, &answer, tally)?.as_str(),
             *comes,
             "{count:?} {fail:?}"
         );

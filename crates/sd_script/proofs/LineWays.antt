@@ -16,7 +16,10 @@ use Rattle.sd_config.specs.declared.config.BootFile.{BootFile}
 use Rattle.sd_config.specs.declared.config.RootItem.{RootItem}
 use Rattle.sd_config.specs.declared.config.RootItem.TheVariants.{File, Symlink}
 use Rattle.sd_config.specs.declared.config.SwapLine.{SwapLine}
+use Rattle.sd_outside.specs.declared.packet.Addr.{Addr}
 use Rattle.sd_config.specs.declared.events.Fate.{Fate}
+use Rattle.sd_config.specs.declared.events.Stranger.{Stranger}
+use Rattle.sd_config.specs.Events.{body_limit, IsElsewhere}
 use Rattle.sd_config.specs.declared.command.Command.{Command}
 use Rattle.sd_config.specs.declared.command.Command.TheVariants as commands
 use Rattle.sd_config.specs.Commands.{command_limit}
@@ -27,15 +30,16 @@ use Rattle.sd_script.specs.declared.draft.Section.TheVariants as sections
 use Rattle.sd_script.specs.declared.draft.Draft.{Draft}
 use Rattle.sd_script.specs.declared.draft.Word.{Word}
 use Rattle.sd_script.specs.declared.draft.Word.TheVariants as words
-use Rattle.sd_text.specs.Texts.{Text, fields, IsNumber, IsMac, IsIp}
+use Rattle.sd_text.specs.Texts.{Text, fields, IsNumber, IsMac, IsIp, IsAddr}
 use Rattle.sd_text.specs.Runs.{IsRunsWithin}
 use Rattle.sd_text.proofs.Exits.{firsts, others}
 use Rattle.sd_text.proofs.NumberLemmas.{one_number}
 use Rattle.sd_text.proofs.ItemLemmas.{one_runs}
-use Rattle.sd_script.specs.Limits.{all_files_limit, host_limit, params_limit, fate_limit}
-use Rattle.sd_script.specs.Lines.{with_config, with_host, with_params, with_boot_file, with_item, with_fate, with_command, MayBeEvent, MayBeCommand, LifeLine, TriesLine, WaitLine, PagesLine, IsMachine, Differ, ServerLine, ClientLine, ArchLine, MayAddHost, HostLine, spaced, IsRest, ParamsLine, HasRoom, MayAddBootFile, TftpLine, MayBeRoot, RootLine, MayAddItem, FileLine, LinkLine, KernelLine, MayBeSwap, SwapFileLine, IsDelays, MayAddFate, FateLine, AddsCommand, AddrLine, BootLine, WaitCommandLine}
+use Rattle.sd_text.proofs.PacketLemmas.{one_addr}
+use Rattle.sd_script.specs.Limits.{all_files_limit, host_limit, params_limit, fate_limit, stranger_limit}
+use Rattle.sd_script.specs.Lines.{with_config, with_host, with_params, with_boot_file, with_item, with_fate, with_stranger, with_command, MayBeEvent, MayBeCommand, LifeLine, TriesLine, WaitLine, PagesLine, IsMachine, Differ, ServerLine, ClientLine, ArchLine, MayAddHost, HostLine, spaced, IsRest, ParamsLine, HasRoom, MayAddBootFile, TftpLine, MayBeRoot, RootLine, MayAddItem, FileLine, LinkLine, KernelLine, MayBeSwap, SwapFileLine, IsDelays, MayAddFate, FateLine, StrangerLine, AddsCommand, AddrLine, BootLine, WaitCommandLine}
 use Rattle.sd_script.specs.Grammar.{IsWhole, spelling, WordLine, IsSkipped, IsWordLine, IsLine}
-use Rattle.sd_text.proofs.Deciding.{Settled, Way, both, either, not_so, as_well, le_settled, lt_settled, text_settled, all_settled, some_settled, none_settled, empty_settled, number_way, mac_way, run_way, ip_way}
+use Rattle.sd_text.proofs.Deciding.{Settled, Way, both, either, not_so, as_well, le_settled, lt_settled, text_settled, all_settled, some_settled, none_settled, empty_settled, number_way, mac_way, run_way, ip_way, addr_way}
 use Rattle.sd_text.proofs.MacLemmas.{one_ip}
 use Rattle.sd_script.proofs.Deciding.{name_settled, target_settled, path_settled, apart_settled, numbers_way}
 use Rattle.sd_script.proofs.MachineLemmas.{one_machine}
@@ -368,6 +372,39 @@ fate_way old (id ∷ delays) = of (number_way 0 4294967295 id) (delays_way old.c
     of (inl n) (inr none) at = inr (λ new h. none h.fate.delays (subst (λ (l : List Text). IsDelays old.config.life l h.fate.delays) (sym (others h.text)) h.are_delays))
     of (inl n) (inl ds) (inr other) = inr (λ new h. other h.place)
 
+elsewhere_settled : (client server : ℕ) (src : Addr) → Settled (IsElsewhere client server src)
+elsewhere_settled client server src = of (both (not_so (cases_eq src.ip client)) (both (not_so (cases_eq src.ip server)) (not_so (cases_eq src.port 111))))
+  where
+    of : Settled ((src.ip ≢ client) × ((src.ip ≢ server) × (src.port ≢ 111))) → Settled (IsElsewhere client server src)
+    of (inl h) = inl (record { not_client = h.0; not_server = h.1.0; not_portmapper = h.1.1 })
+    of (inr other) = inr (λ h. other (h.not_client, (h.not_server, h.not_portmapper)))
+
+stranger_way : (old : Draft) (args : List Text) → Way (StrangerLine old args)
+stranger_way old [] = inr (λ new h. absurd (omega (arith, ap length h.text)))
+stranger_way old (a ∷ []) = inr (λ new h. absurd (omega (arith, ap length h.text)))
+stranger_way old (a ∷ b ∷ []) = inr (λ new h. absurd (omega (arith, ap length h.text)))
+stranger_way old (a ∷ b ∷ c ∷ []) = inr (λ new h. absurd (omega (arith, ap length h.text)))
+stranger_way old (a ∷ b ∷ c ∷ d ∷ e ∷ more) = inr (λ new h. absurd (omega (arith, ap length h.text)))
+stranger_way old (tick ∷ from ∷ to ∷ body ∷ []) = of (number_way 1 4294967295 tick) (addr_way from) (addr_way to) (run_way body_limit body) (both (event_settled old.section) (lt_settled (length old.strangers) stranger_limit))
+  where
+    client : ℕ
+    client = old.config.client.ip
+
+    server : ℕ
+    server = old.config.server.ip
+
+    by_rule : (s : Stranger) → IsNumber 1 4294967295 tick s.tick → IsAddr from s.src → IsAddr to s.dst → IsRunsWithin body_limit body s.body → MayBeEvent old.section × (length old.strangers < stranger_limit) → Settled (IsElsewhere client server s.src) → Way (StrangerLine old (tick ∷ from ∷ to ∷ body ∷ []))
+    by_rule s t f g b at (inl away) = inl (with_stranger old s, record { stranger = s; tick = tick; from = from; to = to; body = body; text = refl; place = at.0; is_tick = t; is_src = f; is_dst = g; is_body = b; elsewhere = away; few = at.1; means = refl })
+    by_rule s t f g b at (inr near) = inr (λ new h. near (subst (λ (a : Addr). IsElsewhere client server a) (one_addr from h.stranger.src s.src (subst (λ (u : Text). IsAddr u h.stranger.src) (sym (firsts (others h.text))) h.is_src) f) h.elsewhere))
+
+    of : Way (IsNumber 1 4294967295 tick) → Way (IsAddr from) → Way (IsAddr to) → Way (IsRunsWithin body_limit body) → Settled (MayBeEvent old.section × (length old.strangers < stranger_limit)) → Way (StrangerLine old (tick ∷ from ∷ to ∷ body ∷ []))
+    of (inl t) (inl f) (inl g) (inl b) (inl at) = by_rule (record { tick = t.0; src = f.0; dst = g.0; body = b.0 }) t.1 f.1 g.1 b.1 at (elsewhere_settled client server f.0)
+    of (inr none) f g b at = inr (λ new h. none h.stranger.tick (subst (λ (u : Text). IsNumber 1 4294967295 u h.stranger.tick) (sym (firsts h.text)) h.is_tick))
+    of (inl t) (inr none) g b at = inr (λ new h. none h.stranger.src (subst (λ (u : Text). IsAddr u h.stranger.src) (sym (firsts (others h.text))) h.is_src))
+    of (inl t) (inl f) (inr none) b at = inr (λ new h. none h.stranger.dst (subst (λ (u : Text). IsAddr u h.stranger.dst) (sym (firsts (others (others h.text)))) h.is_dst))
+    of (inl t) (inl f) (inl g) (inr none) at = inr (λ new h. none h.stranger.body (subst (λ (u : Text). IsRunsWithin body_limit u h.stranger.body) (sym (firsts (others (others (others h.text))))) h.is_body))
+    of (inl t) (inl f) (inl g) (inl b) (inr other) = inr (λ new h. other (h.place, h.few))
+
 adds_way : (old : Draft) (command : Command) → Way (AddsCommand old command)
 adds_way old command = of (both (command_settled old.section) (lt_settled (length old.commands) command_limit))
   where
@@ -375,12 +412,12 @@ adds_way old command = of (both (command_settled old.section) (lt_settled (lengt
     of (inl h) = inl (with_command old command, record { place = h.0; count = h.1; means = refl })
     of (inr other) = inr (λ new h. other (h.place, h.count))
 
-addr_way : (old : Draft) (args : List Text) → Way (AddrLine old args)
-addr_way old [] = elim (adds_way old commands.Addr) [
+addr_line_way : (old : Draft) (args : List Text) → Way (AddrLine old args)
+addr_line_way old [] = elim (adds_way old commands.Addr) [
   | inl new ↦ inl (new.0, record { text = refl; adds = new.1 })
   | inr none ↦ inr (λ new h. none new h.adds)
 ]
-addr_way old (f ∷ more) = inr (λ new h. absurd (omega (arith, ap length h.text)))
+addr_line_way old (f ∷ more) = inr (λ new h. absurd (omega (arith, ap length h.text)))
 
 boot_way : (old : Draft) (args : List Text) → Way (BootLine old args)
 boot_way old [] = elim (adds_way old commands.Boot) [
@@ -426,7 +463,8 @@ word_line_way words.Link old args = link_way old args
 word_line_way words.Kernel old args = kernel_way old args
 word_line_way words.Swap old args = swap_way old args
 word_line_way words.Fate old args = fate_way old args
-word_line_way words.Addr old args = addr_way old args
+word_line_way words.Stranger old args = stranger_way old args
+word_line_way words.Addr old args = addr_line_way old args
 word_line_way words.Boot old args = boot_way old args
 
 -- ---- words
@@ -436,7 +474,7 @@ IsAmong word [] = ⊥
 IsAmong word (one ∷ more) = (word ≡ one) ⊎ IsAmong word more
 
 abbrev all_words : List Word
-all_words = words.Life ∷ words.Tries ∷ words.Wait ∷ words.Pages ∷ words.Server ∷ words.Client ∷ words.Arch ∷ words.Host ∷ words.Params ∷ words.Tftp ∷ words.Root ∷ words.File ∷ words.Link ∷ words.Kernel ∷ words.Swap ∷ words.Fate ∷ words.Addr ∷ words.Boot ∷ []
+all_words = words.Life ∷ words.Tries ∷ words.Wait ∷ words.Pages ∷ words.Server ∷ words.Client ∷ words.Arch ∷ words.Host ∷ words.Params ∷ words.Tftp ∷ words.Root ∷ words.File ∷ words.Link ∷ words.Kernel ∷ words.Swap ∷ words.Fate ∷ words.Stranger ∷ words.Addr ∷ words.Boot ∷ []
 
 among_all : (word : Word) → IsAmong word all_words
 among_all words.Life = inl refl
@@ -455,8 +493,9 @@ among_all words.Link = inr (inr (inr (inr (inr (inr (inr (inr (inr (inr (inr (in
 among_all words.Kernel = inr (inr (inr (inr (inr (inr (inr (inr (inr (inr (inr (inr (inr (inl refl)))))))))))))
 among_all words.Swap = inr (inr (inr (inr (inr (inr (inr (inr (inr (inr (inr (inr (inr (inr (inl refl))))))))))))))
 among_all words.Fate = inr (inr (inr (inr (inr (inr (inr (inr (inr (inr (inr (inr (inr (inr (inr (inl refl)))))))))))))))
-among_all words.Addr = inr (inr (inr (inr (inr (inr (inr (inr (inr (inr (inr (inr (inr (inr (inr (inr (inl refl))))))))))))))))
-among_all words.Boot = inr (inr (inr (inr (inr (inr (inr (inr (inr (inr (inr (inr (inr (inr (inr (inr (inr (inl refl)))))))))))))))))
+among_all words.Stranger = inr (inr (inr (inr (inr (inr (inr (inr (inr (inr (inr (inr (inr (inr (inr (inr (inl refl))))))))))))))))
+among_all words.Addr = inr (inr (inr (inr (inr (inr (inr (inr (inr (inr (inr (inr (inr (inr (inr (inr (inr (inl refl)))))))))))))))))
+among_all words.Boot = inr (inr (inr (inr (inr (inr (inr (inr (inr (inr (inr (inr (inr (inr (inr (inr (inr (inr (inl refl))))))))))))))))))
 
 search_word : (t : Text) (these : List Word) → ((word : Word) × (t ≡ spelling word)) ⊎ ((word : Word) → IsAmong word these → t ≡ spelling word → ⊥)
 search_word t [] = inr (λ word h e. h)

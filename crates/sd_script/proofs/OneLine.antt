@@ -8,11 +8,15 @@ use Rattle.sd_script.specs.declared.draft.Word.{Word}
 use Rattle.sd_script.specs.declared.draft.Word.TheVariants as words
 use Rattle.sd_config.specs.declared.command.Command.{Command}
 use Rattle.sd_config.specs.declared.command.Command.TheVariants as commands
-use Rattle.sd_text.specs.Texts.{Text, fields, IsNumber, IsIp}
-use Rattle.sd_script.specs.Lines.{IsMachine, LifeLine, TriesLine, WaitLine, PagesLine, ServerLine, ClientLine, IsDelays, FateLine, AddsCommand, WaitCommandLine}
+use Rattle.sd_outside.specs.declared.packet.Addr.{Addr}
+use Rattle.sd_text.specs.Texts.{Text, fields, IsNumber, IsIp, IsAddr}
+use Rattle.sd_text.specs.Runs.{IsRuns}
+use Rattle.sd_script.specs.Lines.{IsMachine, LifeLine, TriesLine, WaitLine, PagesLine, ServerLine, ClientLine, IsDelays, FateLine, StrangerLine, AddsCommand, WaitCommandLine}
 use Rattle.sd_script.specs.Grammar.{spelling, WordLine, IsSkipped, IsWordLine, IsLine}
 use Rattle.sd_text.proofs.Exits.{firsts, others}
 use Rattle.sd_text.proofs.NumberLemmas.{one_number, same_number}
+use Rattle.sd_text.proofs.PacketLemmas.{one_addr}
+use Rattle.sd_text.proofs.ItemLemmas.{one_runs}
 use Rattle.sd_script.proofs.MachineLemmas.{one_machine}
 use Rattle.sd_text.proofs.MacLemmas.{one_ip}
 use Rattle.sd_script.proofs.DelayLemmas.{zip-at, no_number}
@@ -91,6 +95,18 @@ fate_one old args a b x y =
     let same : x.fate ≡ y.fate = λ k. record { id = id k; delays = delays k } in
     x.means ∙ rw same (sym y.means)
 
+stranger_one : (old : Draft) (args : List Text) (a b : Draft) → StrangerLine old args a → StrangerLine old args b → a ≡ b
+stranger_one old args a b x y =
+    let e = sym x.text ∙ y.text in
+    let after_tick = others e in
+    let after_from = others after_tick in
+    let tick : x.stranger.tick ≡ y.stranger.tick = same_number 1 4294967295 x.stranger.tick y.stranger.tick (firsts e) x.is_tick y.is_tick in
+    let src : x.stranger.src ≡ y.stranger.src = one_addr y.from x.stranger.src y.stranger.src (subst (λ (t : Text). IsAddr t x.stranger.src) (firsts after_tick) x.is_src) y.is_src in
+    let dst : x.stranger.dst ≡ y.stranger.dst = one_addr y.to x.stranger.dst y.stranger.dst (subst (λ (t : Text). IsAddr t x.stranger.dst) (firsts after_from) x.is_dst) y.is_dst in
+    let body : x.stranger.body ≡ y.stranger.body = one_runs y.body x.stranger.body y.stranger.body (subst (λ (t : Text). IsRuns t x.stranger.body) (firsts (others after_from)) x.is_body.is) y.is_body.is in
+    let same : x.stranger ≡ y.stranger = λ k. record { tick = tick k; src = src k; dst = dst k; body = body k } in
+    x.means ∙ rw same (sym y.means)
+
 adds_one : (old : Draft) (c d : Command) (a b : Draft) → c ≡ d → AddsCommand old c a → AddsCommand old d b → a ≡ b
 adds_one old c d a b same x y = x.means ∙ rw same (sym y.means)
 
@@ -120,6 +136,7 @@ word_one words.Link old args a b x y = link_one old args a b x y
 word_one words.Kernel old args a b x y = kernel_one old args a b x y
 word_one words.Swap old args a b x y = swap_one old args a b x y
 word_one words.Fate old args a b x y = fate_one old args a b x y
+word_one words.Stranger old args a b x y = stranger_one old args a b x y
 word_one words.Addr old args a b x y = adds_one old commands.Addr commands.Addr a b refl x.adds y.adds
 word_one words.Boot old args a b x y = adds_one old commands.Boot commands.Boot a b refl x.adds y.adds
 
@@ -131,7 +148,8 @@ word_at text =
     (cond (bytes_eq text (codes "pages")) words.Pages (cond (bytes_eq text (codes "server")) words.Server (cond (bytes_eq text (codes "client")) words.Client
     (cond (bytes_eq text (codes "arch")) words.Arch (cond (bytes_eq text (codes "host")) words.Host (cond (bytes_eq text (codes "params")) words.Params (cond (bytes_eq text (codes "tftp")) words.Tftp (cond (bytes_eq text (codes "root")) words.Root
     (cond (bytes_eq text (codes "file")) words.File (cond (bytes_eq text (codes "link")) words.Link (cond (bytes_eq text (codes "kernel")) words.Kernel
-    (cond (bytes_eq text (codes "swap")) words.Swap (cond (bytes_eq text (codes "fate")) words.Fate (cond (bytes_eq text (codes "addr")) words.Addr words.Boot))))))))))))))))
+    (cond (bytes_eq text (codes "swap")) words.Swap (cond (bytes_eq text (codes "fate")) words.Fate
+    (cond (bytes_eq text (codes "stranger")) words.Stranger (cond (bytes_eq text (codes "addr")) words.Addr words.Boot)))))))))))))))))
 
 word_back : (word : Word) → word_at (spelling word) ≡ word
 word_back words.Life = refl
@@ -150,6 +168,7 @@ word_back words.Link = refl
 word_back words.Kernel = refl
 word_back words.Swap = refl
 word_back words.Fate = refl
+word_back words.Stranger = refl
 word_back words.Addr = refl
 word_back words.Boot = refl
 
@@ -174,6 +193,7 @@ word_starts words.Link = (omega arith, λ e. omega (arith, e))
 word_starts words.Kernel = (omega arith, λ e. omega (arith, e))
 word_starts words.Swap = (omega arith, λ e. omega (arith, e))
 word_starts words.Fate = (omega arith, λ e. omega (arith, e))
+word_starts words.Stranger = (omega arith, λ e. omega (arith, e))
 word_starts words.Addr = (omega arith, λ e. omega (arith, e))
 word_starts words.Boot = (omega arith, λ e. omega (arith, e))
 

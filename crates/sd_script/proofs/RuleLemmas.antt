@@ -9,10 +9,11 @@ use Rattle.sd_config.specs.declared.config.RootItem.{RootItem}
 use Rattle.sd_config.specs.declared.config.RootItem.TheVariants as items
 use Rattle.sd_config.specs.declared.config.SwapLine.{SwapLine}
 use Rattle.sd_config.specs.declared.events.Fate.{Fate}
+use Rattle.sd_config.specs.declared.events.Stranger.{Stranger}
 use Rattle.sd_text.specs.Texts.{Text, IsNumber}
 use Rattle.sd_config.specs.Config as rules
 use Rattle.sd_config.specs.Config.{IsConfig, IsWithin, bytes_of}
-use Rattle.sd_config.specs.Events.{IsFate}
+use Rattle.sd_config.specs.Events.{IsFate, IsStranger}
 use Rattle.sd_config.specs.declared.command.Command.{Command}
 use Rattle.sd_config.specs.declared.command.Command.TheVariants as commands
 use Rattle.sd_script.specs.declared.script.Script.{Script}
@@ -22,7 +23,7 @@ use Rattle.sd_script.specs.declared.draft.Draft.{Draft}
 use Rattle.sd_script.specs.declared.draft.Word.{Word}
 use Rattle.sd_script.specs.declared.draft.Word.TheVariants as words
 use Rattle.sd_config.specs.Commands.{command_limit}
-use Rattle.sd_script.specs.Lines.{IsMachine, LifeLine, TriesLine, WaitLine, PagesLine, ServerLine, ClientLine, ArchLine, HostLine, ParamsLine, TftpLine, RootLine, FileLine, LinkLine, KernelLine, SwapFileLine, HasRoom, MayAddHost, with_host, with_params, MayAddBootFile, MayAddItem, MayBeEvent, MayBeCommand, IsDelays, FateLine, AddsCommand, Differ, with_config, with_boot_file, with_item, with_fate, with_command}
+use Rattle.sd_script.specs.Lines.{IsMachine, LifeLine, TriesLine, WaitLine, PagesLine, ServerLine, ClientLine, ArchLine, HostLine, ParamsLine, TftpLine, RootLine, FileLine, LinkLine, KernelLine, SwapFileLine, HasRoom, MayAddHost, with_host, with_params, MayAddBootFile, MayAddItem, MayBeEvent, MayBeCommand, IsDelays, FateLine, StrangerLine, AddsCommand, Differ, with_config, with_boot_file, with_item, with_fate, with_stranger, with_command}
 use Rattle.sd_script.specs.Grammar.{spelling, WordLine, IsLine, Leads, without_feed, blank, kernel_or_usual, script_of, IsScript}
 use Rattle.sd_script.specs.Rules.{KeepsRules}
 use Rattle.sd_config.specs.Commands.{IsCommand}
@@ -64,8 +65,9 @@ record KeepsSoFar (d : Draft) : Type 0 where
   params : ParamsSoFar d.config.params d.params_lines d.params
   lines : KeepsLines d.config
   sum : d.bytes ≡ bytes_of d.config
-  early : stage d.section < 6 → d.fates ≡ []
+  early : stage d.section < 6 → (d.fates ≡ []) × (d.strangers ≡ [])
   fates : All (IsFate d.config.life) d.fates
+  strangers : All (IsStranger d.config.client.ip d.config.server.ip) d.strangers
   commands : All IsCommand d.commands
   few : length d.commands ≤ command_limit
 
@@ -92,7 +94,8 @@ heads old section c same_hosts same_params k early h lines sum = record {
   lines = lines;
   sum = sum;
   early = λ _. k.early early;
-  fates = none (IsFate c.life) old.fates (k.early early);
+  fates = none (IsFate c.life) old.fates (k.early early).0;
+  strangers = none (IsStranger c.client.ip c.server.ip) old.strangers (k.early early).1;
   commands = k.commands;
   few = k.few;
 }
@@ -193,9 +196,9 @@ client_kept old args new l k =
     } k.lines k.sum)
 
 -- the draft with another configuration, after the heading
-lined : (old : Draft) (c : Config) → KeepsSoFar old → Headed 6 c → All (IsFate c.life) old.fates → rules.AreHosts c.server.name c.client.name c.hosts → ParamsSoFar c.params old.params_lines old.params → KeepsLines c → old.bytes ≡ bytes_of c
+lined : (old : Draft) (c : Config) → KeepsSoFar old → Headed 6 c → All (IsFate c.life) old.fates → All (IsStranger c.client.ip c.server.ip) old.strangers → rules.AreHosts c.server.name c.client.name c.hosts → ParamsSoFar c.params old.params_lines old.params → KeepsLines c → old.bytes ≡ bytes_of c
     → KeepsSoFar (with_config old sections.Config c)
-lined old c k h fates hosts params lines sum = record {
+lined old c k h fates strangers hosts params lines sum = record {
   headed = h;
   hosts = hosts;
   no_hosts = λ h. absurd (omega (arith, h));
@@ -204,6 +207,7 @@ lined old c k h fates hosts params lines sum = record {
   sum = sum;
   early = λ h. absurd (omega (arith, h));
   fates = fates;
+  strangers = strangers;
   commands = k.commands;
   few = k.few;
 }
@@ -221,6 +225,7 @@ host_kept old args new l k =
       sum = k.sum;
       early = k.early;
       fates = k.fates;
+      strangers = k.strangers;
       commands = k.commands;
       few = k.few;
     } in
@@ -237,6 +242,7 @@ params_kept old args new one l k =
       sum = k.sum;
       early = k.early;
       fates = k.fates;
+      strangers = k.strangers;
       commands = k.commands;
       few = k.few;
     } in
@@ -246,19 +252,19 @@ arch_kept : (old : Draft) (args : List Text) (new : Draft) → ArchLine old args
 arch_kept old args new l k =
     let c = old.config in
     let lines = arch_lined c.arch c.tftp c.root c.items c.kernel c.swap k.lines l.name l.is_name in
-    subst KeepsSoFar (sym l.means) (lined old (record c { arch = l.name }) k (came old sections.Config l.place k) k.fates k.hosts k.params lines k.sum)
+    subst KeepsSoFar (sym l.means) (lined old (record c { arch = l.name }) k (came old sections.Config l.place k) k.fates k.strangers k.hosts k.params lines k.sum)
 
 kernel_kept : (old : Draft) (args : List Text) (new : Draft) → KernelLine old args new → KeepsSoFar old → KeepsSoFar new
 kernel_kept old args new l k =
     let c = old.config in
     let lines = kernel_lined c.arch c.tftp c.root c.items c.kernel c.swap k.lines l.path l.is_path in
-    subst KeepsSoFar (sym l.means) (lined old (record c { kernel = l.path }) k (came old sections.Config l.place k) k.fates k.hosts k.params lines k.sum)
+    subst KeepsSoFar (sym l.means) (lined old (record c { kernel = l.path }) k (came old sections.Config l.place k) k.fates k.strangers k.hosts k.params lines k.sum)
 
 root_kept : (old : Draft) (args : List Text) (new : Draft) → RootLine old args new → KeepsSoFar old → KeepsSoFar new
 root_kept old args new l k =
     let c = old.config in
     let lines = root_lined c.arch c.tftp c.root c.items c.kernel c.swap k.lines l.path l.is_path l.may.1 in
-    subst KeepsSoFar (sym l.means) (lined old (record c { root = Some l.path }) k (came old sections.Config l.place k) k.fates k.hosts k.params lines k.sum)
+    subst KeepsSoFar (sym l.means) (lined old (record c { root = Some l.path }) k (came old sections.Config l.place k) k.fates k.strangers k.hosts k.params lines k.sum)
 
 swap_kept : (old : Draft) (args : List Text) (new : Draft) → SwapFileLine old args new → KeepsSoFar old → KeepsSoFar new
 swap_kept old args new l k =
@@ -266,7 +272,7 @@ swap_kept old args new l k =
     let swap : SwapLine = record { path = l.path; size = l.size } in
     let is : rules.IsSwap swap = record { path = l.is_path; size = within 8192 33554432 l.is_size } in
     let lines = swap_lined c.arch c.tftp c.root c.items c.kernel c.swap k.lines swap is l.may.1 in
-    subst KeepsSoFar (sym l.means) (lined old (record c { swap = Some swap }) k (came old sections.Config l.place k) k.fates k.hosts k.params lines k.sum)
+    subst KeepsSoFar (sym l.means) (lined old (record c { swap = Some swap }) k (came old sections.Config l.place k) k.fates k.strangers k.hosts k.params lines k.sum)
 
 boot_file_kept : (old : Draft) (file : BootFile) → old.section ≡ sections.Config → MayAddBootFile old.config.tftp file.name → rules.IsBootFile file → HasRoom old (length file.bytes) → KeepsSoFar old → KeepsSoFar (with_boot_file old file)
 boot_file_kept old file place may is room k =
@@ -281,6 +287,7 @@ boot_file_kept old file place may is room k =
       sum = sum;
       early = k.early;
       fates = k.fates;
+      strangers = k.strangers;
       commands = k.commands;
       few = k.few;
     }
@@ -304,6 +311,7 @@ item_kept old item place may is room k =
       sum = sum;
       early = k.early;
       fates = k.fates;
+      strangers = k.strangers;
       commands = k.commands;
       few = k.few;
     }
@@ -355,6 +363,27 @@ fate_kept old args new l k =
       sum = k.sum;
       early = λ h. absurd (omega (arith, h));
       fates = All-append P old.fates (l.fate ∷ []) k.fates (All-cons P l.fate [] is (All-nil P));
+      strangers = k.strangers;
+      commands = k.commands;
+      few = k.few;
+    } in
+    subst KeepsSoFar (sym l.means) kept
+
+stranger_kept : (old : Draft) (args : List Text) (new : Draft) → StrangerLine old args new → KeepsSoFar old → KeepsSoFar new
+stranger_kept old args new l k =
+    let at = whole_at_event old.section l.place in
+    let P = IsStranger old.config.client.ip old.config.server.ip in
+    let is : P l.stranger = record { tick = within 1 4294967295 l.is_tick; from = l.elsewhere; body = l.is_body.within } in
+    let kept : KeepsSoFar (with_stranger old l.stranger) = record {
+      headed = headed_on old at k;
+      hosts = k.hosts;
+      no_hosts = λ h. absurd (omega (arith, h));
+      params = k.params;
+      lines = k.lines;
+      sum = k.sum;
+      early = λ h. absurd (omega (arith, h));
+      fates = k.fates;
+      strangers = All-append P old.strangers (l.stranger ∷ []) k.strangers (All-cons P l.stranger [] is (All-nil P));
       commands = k.commands;
       few = k.few;
     } in
@@ -372,6 +401,7 @@ adds_kept old command new is l k =
       sum = k.sum;
       early = λ h. absurd (omega (arith, h));
       fates = k.fates;
+      strangers = k.strangers;
       commands = All-append IsCommand old.commands (command ∷ []) k.commands (All-cons IsCommand command [] is (All-nil IsCommand));
       few = omega (arith, l.count, length-append old.commands (command ∷ []));
     } in
@@ -394,6 +424,7 @@ word_kept words.Link old args new one l k = link_kept old args new l k
 word_kept words.Kernel old args new one l k = kernel_kept old args new l k
 word_kept words.Swap old args new one l k = swap_kept old args new l k
 word_kept words.Fate old args new one l k = fate_kept old args new l k
+word_kept words.Stranger old args new one l k = stranger_kept old args new l k
 word_kept words.Addr old args new one l k = adds_kept old commands.Addr new tt l.adds k
 word_kept words.Boot old args new one l k = adds_kept old commands.Boot new tt l.adds k
 
@@ -427,8 +458,9 @@ blank_kept = record {
   params = no_params;
   lines = no_lines;
   sum = refl;
-  early = λ _. refl;
+  early = λ _. (refl, refl);
   fates = All-nil (IsFate 0);
+  strangers = All-nil (IsStranger 0 0);
   commands = All-nil IsCommand;
   few = omega arith;
 }
@@ -467,7 +499,7 @@ keeps_rules text script s =
     let at = whole_at_command s.draft.section s.whole in
     let kept : KeepsRules (script_of s.draft) = record {
       config = config_kept s.draft.config (headed_on s.draft at k) k.hosts (params_are s.draft.config.params s.draft.params_lines s.draft.params k.params) k.lines;
-      events = record { fates = k.fates };
+      events = record { fates = k.fates; strangers = k.strangers };
       commands = k.commands;
       few = k.few;
     } in

@@ -14,7 +14,7 @@ use Rattle.sd_script.specs.declared.error.ScriptError.{ScriptError}
 use Rattle.sd_script.specs.declared.error.ScriptError.TheVariants as errors
 use Rattle.sd_text.specs.Texts.{Text, fields}
 use Rattle.sd_script.specs.Limits.{input_limit}
-use Rattle.sd_script.specs.Lines.{LifeLine, TriesLine, WaitLine, PagesLine, ServerLine, ClientLine, ArchLine, HostLine, ParamsLine, TftpLine, RootLine, FileLine, LinkLine, KernelLine, SwapFileLine, FateLine, AddrLine, BootLine, WaitCommandLine}
+use Rattle.sd_script.specs.Lines.{LifeLine, TriesLine, WaitLine, PagesLine, ServerLine, ClientLine, ArchLine, HostLine, ParamsLine, TftpLine, RootLine, FileLine, LinkLine, KernelLine, SwapFileLine, FateLine, StrangerLine, AddrLine, BootLine, WaitCommandLine}
 
 -- the word with which a line begins
 abbrev pub spelling : Word → Text
@@ -34,6 +34,7 @@ spelling words.Link = codes "link"
 spelling words.Kernel = codes "kernel"
 spelling words.Swap = codes "swap"
 spelling words.Fate = codes "fate"
+spelling words.Stranger = codes "stranger"
 spelling words.Addr = codes "addr"
 spelling words.Boot = codes "boot"
 
@@ -55,6 +56,7 @@ WordLine words.Link old args new = LinkLine old args new
 WordLine words.Kernel old args new = KernelLine old args new
 WordLine words.Swap old args new = SwapFileLine old args new
 WordLine words.Fate old args new = FateLine old args new
+WordLine words.Stranger old args new = StrangerLine old args new
 WordLine words.Addr old args new = AddrLine old args new
 WordLine words.Boot old args new = BootLine old args new
 
@@ -112,7 +114,7 @@ no_config = record {
 }
 
 abbrev pub blank : Draft
-blank = record { section = sections.Life; config = no_config; params_lines = 0; params = file.blank; bytes = 0; fates = []; commands = [] }
+blank = record { section = sections.Life; config = no_config; params_lines = 0; params = file.blank; bytes = 0; fates = []; strangers = []; commands = [] }
 
 -- the kernel's path, and the usual one where no line names another
 abbrev pub kernel_or_usual : Text → Text
@@ -121,7 +123,7 @@ kernel_or_usual (b ∷ path) = b ∷ path
 
 -- the script that the draft is
 abbrev pub script_of : Draft → Script
-script_of draft = record { config = record draft.config { kernel = kernel_or_usual draft.config.kernel }; events = record { fates = draft.fates }; commands = draft.commands }
+script_of draft = record { config = record draft.config { kernel = kernel_or_usual draft.config.kernel }; events = record { fates = draft.fates; strangers = draft.strangers }; commands = draft.commands }
 
 -- all six lines of the heading came
 abbrev pub IsWhole : Section → Type 0

@@ -20,3 +20,7 @@ params_limit = 256
 -- the most fates of a script
 abbrev pub fate_limit : ℕ
 fate_limit = 65536
+
+-- the most packets of strangers
+abbrev pub stranger_limit : ℕ
+stranger_limit = 4096

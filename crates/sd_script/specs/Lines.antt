@@ -11,16 +11,18 @@ use Rattle.sd_config.specs.declared.config.RootItem.{RootItem}
 use Rattle.sd_config.specs.declared.config.RootItem.TheVariants.{File, Symlink}
 use Rattle.sd_config.specs.declared.config.SwapLine.{SwapLine}
 use Rattle.sd_config.specs.declared.events.Fate.{Fate}
+use Rattle.sd_config.specs.declared.events.Stranger.{Stranger}
 use Rattle.sd_config.specs.declared.command.Command.{Command}
 use Rattle.sd_config.specs.declared.command.Command.TheVariants as commands
 use Rattle.sd_script.specs.declared.draft.Section.{Section}
 use Rattle.sd_script.specs.declared.draft.Section.TheVariants as sections
 use Rattle.sd_script.specs.declared.draft.Draft.{Draft}
-use Rattle.sd_text.specs.Texts.{Text, IsNumber, IsMac, IsIp}
+use Rattle.sd_text.specs.Texts.{Text, IsNumber, IsMac, IsIp, IsAddr}
 use Rattle.sd_config.specs.Config.{IsName, boot_file_limit, IsPath, IsTarget, AreApart, item_path, item_size}
 use Rattle.sd_text.specs.Runs.{IsRunsWithin}
-use Rattle.sd_script.specs.Limits.{all_files_limit, host_limit, params_limit, fate_limit}
+use Rattle.sd_script.specs.Limits.{all_files_limit, host_limit, params_limit, fate_limit, stranger_limit}
 use Rattle.sd_config.specs.Commands.{command_limit}
+use Rattle.sd_config.specs.Events.{body_limit, IsElsewhere}
 
 -- The draft with another configuration, event or command, and the section of the next line.
 
@@ -42,6 +44,9 @@ with_item draft item = record draft { config = record draft.config { items = dra
 
 abbrev pub with_fate : Draft → Fate → Draft
 with_fate draft fate = record draft { section = sections.Events; fates = draft.fates ++ (fate ∷ []) }
+
+abbrev pub with_stranger : Draft → Stranger → Draft
+with_stranger draft stranger = record draft { section = sections.Events; strangers = draft.strangers ++ (stranger ∷ []) }
 
 abbrev pub with_command : Draft → Command → Draft
 with_command draft command = record draft { section = sections.Commands; commands = draft.commands ++ (command ∷ []) }
@@ -297,6 +302,23 @@ pub record FateLine (old : Draft) (args : List Text) (new : Draft) : Type 0 wher
   pub are_delays : IsDelays old.config.life delays fate.delays
   pub may : MayAddFate old.fates fate.id
   pub means : new ≡ with_fate old fate
+
+-- `stranger TICK ADDR ADDR BYTES`, of which a script has at most 4,096
+pub record StrangerLine (old : Draft) (args : List Text) (new : Draft) : Type 0 where
+  pub stranger : Stranger
+  pub tick : Text
+  pub from : Text
+  pub to : Text
+  pub body : Text
+  pub text : args ≡ tick ∷ from ∷ to ∷ body ∷ []
+  pub place : MayBeEvent old.section
+  pub is_tick : IsNumber 1 4294967295 tick stranger.tick
+  pub is_src : IsAddr from stranger.src
+  pub is_dst : IsAddr to stranger.dst
+  pub is_body : IsRunsWithin body_limit body stranger.body
+  pub elsewhere : IsElsewhere old.config.client.ip old.config.server.ip stranger.src
+  pub few : length old.strangers < stranger_limit
+  pub means : new ≡ with_stranger old stranger
 
 -- Command lines.
 

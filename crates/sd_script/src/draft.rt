@@ -1,7 +1,7 @@
 //! What the lines of a script say so far, and the words with which they begin.
 
 use crate::fates::FateBook;
-use sd_config::{CommandList, Config};
+use sd_config::{CommandList, Config, StrangerList};
 
 /// Which lines may come next. The first six are the lines of the heading, in their order.
 #[derive(Clone, Copy, Debug, PartialEq, Eq)]
@@ -36,6 +36,7 @@ pub enum Word {
     Kernel,
     Swap,
     Fate,
+    Stranger,
     Addr,
     Boot,
 }
@@ -51,5 +52,6 @@ pub struct Draft {
     /// How many bytes boot files and files of the root export have so far.
     pub bytes: u64,
     pub fates: FateBook,
+    pub strangers: StrangerList,
     pub commands: CommandList,
 }

@@ -1,6 +1,5 @@
 //! The fields of a line that only scripts have, one after another.
 
-ghost use Rattle.std.specs.Prelude.{◌≡◌, []};
 ghost use Rattle.sd_config.specs.Config.{IsName, IsPath, IsTarget};
 ghost use Rattle.sd_text.specs.Texts.{IsMac};
 ghost use Rattle.sd_text.specs.Answers.{Takes, TakesText};

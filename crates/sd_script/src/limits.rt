@@ -29,3 +29,9 @@ pub const COMMAND_LIMIT: usize = 16_384;
 
 /// The most fates of a script.
 pub const FATE_LIMIT: usize = 65_536;
+
+/// The most packets of strangers.
+pub const STRANGER_LIMIT: usize = 4_096;
+
+/// The most bytes of a datagram.
+pub const BODY_LIMIT: usize = 9_216;

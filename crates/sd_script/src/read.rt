@@ -11,7 +11,7 @@ use crate::fates::FateBook;
 use crate::limits::INPUT_LIMIT;
 use crate::lines::read_line;
 use crate::script::Script;
-use sd_config::{CommandList, Config, Events, Machine};
+use sd_config::{CommandList, Config, Events, Machine, StrangerList};
 use sd_outside::{ByteList, ListOf, Mac, NoMemory};
 use sd_text::{LineError, place_of};
 use std::alloc::Global;
@@ -54,6 +54,7 @@ fn blank_draft(alloc: Global) -> Draft
         params: sd_bootparams::blank_draft(alloc),
         bytes: 0,
         fates: FateBook::empty(alloc),
+        strangers: StrangerList::empty(alloc),
         commands: CommandList::empty(alloc),
     }
 }
@@ -79,6 +80,7 @@ fn script_of(alloc: Global, draft: Draft) -> Result<Script, NoMemory>
         config,
         events: Events {
             fates: draft.fates.into_list(),
+            strangers: draft.strangers,
         },
         commands: draft.commands,
     })

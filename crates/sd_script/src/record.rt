@@ -1,6 +1,6 @@
 //! The record lines of a transcript.
 
-ghost use Rattle.std.specs.Prelude.{◌≡◌, ◌∷◌, ◌++◌, [], IfOk, OnOk, OnErr};
+ghost use Rattle.std.specs.Prelude.{◌≡◌, ◌∷◌, ◌++◌, IfOk, OnOk, OnErr};
 ghost use Rattle.std.specs.Fmt.{decimal};
 ghost use Rattle.sd_link.specs.Printing.{entry_text};
 ghost use Rattle.sd_link.specs.Steps as steps;
@@ -68,6 +68,40 @@ pub fn write_got(alloc: Global, tick: u64, id: u64, text: &mut ByteList) -> Resu
     ensures err { OnErr result (text.new ≡ text.old) }
 {
     let mut line = event_list(alloc, b"got", tick, id)?;
+    line.push_slice(b"\n")?;
+    text.push_slice(line.as_slice())
+}
+
+/// Writes the line of a packet at which the server crashed, with its line feed, at the end of a text. A refused call changes
+/// nothing.
+pub fn write_crashed(alloc: Global, tick: u64, id: u64, text: &mut ByteList) -> Result<(), NoMemory>
+    ensures ok { OnOk result (text.new ≡ text.old ++ entry_text (steps.Crashed tick id)) }
+    ensures err { OnErr result (text.new ≡ text.old) }
+{
+    let mut line = event_list(alloc, b"crashed", tick, id)?;
+    line.push_slice(b"\n")?;
+    text.push_slice(line.as_slice())
+}
+
+/// Writes the line of a packet at which the server's disk failed, with its line feed, at the end of a text. A refused call
+/// changes nothing.
+pub fn write_faulted(alloc: Global, tick: u64, id: u64, text: &mut ByteList) -> Result<(), NoMemory>
+    ensures ok { OnOk result (text.new ≡ text.old ++ entry_text (steps.Faulted tick id)) }
+    ensures err { OnErr result (text.new ≡ text.old) }
+{
+    let mut line = event_list(alloc, b"faulted", tick, id)?;
+    line.push_slice(b"\n")?;
+    text.push_slice(line.as_slice())
+}
+
+/// Writes the line of a send or a receive that failed, with its line feed, at the end of a text. A refused call changes
+/// nothing.
+pub fn write_failed(alloc: Global, tick: u64, text: &mut ByteList) -> Result<(), NoMemory>
+    ensures ok { OnOk result (text.new ≡ text.old ++ entry_text (steps.Failed tick)) }
+    ensures err { OnErr result (text.new ≡ text.old) }
+{
+    let mut line = ByteList::from_slice(alloc, b"failed ")?;
+    push_number(alloc, &mut line, tick)?;
     line.push_slice(b"\n")?;
     text.push_slice(line.as_slice())
 }

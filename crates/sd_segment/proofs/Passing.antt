@@ -7,28 +7,28 @@ use Rattle.sd_outside.specs.declared.packet.Packet.{Packet}
 use Rattle.sd_config.specs.declared.events.Fate.{Fate}
 use Rattle.sd_config.specs.Events.{fates_of, fate_in}
 use Rattle.sd_link.specs.World.{World, Sender}
-use Rattle.sd_services.specs.Sessions.{with_session, without_session, sent_again, block_packet}
-use Rattle.sd_services.specs.Reply.{reply}
-use Rattle.sd_link.specs.Steps.{Step, Tick, Send, Serve, Data, End, Get, Entry, goes_to_server, goes_to_client, whole_record}
-use Rattle.sd_link.specs.Lawful.{served_at, got_at, due_to_server, due_to_client, AllGot, ServerRests, IsFrontOf}
+use Rattle.sd_services.specs.Part.{ServerPart}
+use Rattle.sd_services.specs.Reply.{out_of, next_of}
+use Rattle.sd_link.specs.Steps.{Step, Tick, Send, Serve, Get, Fail, Entry, goes_to_server, goes_to_client, whole_record}
+use Rattle.sd_link.specs.Lawful.{served_at, got_at, strayed, due_to_server, due_to_client, AllGot, ServerRests, IsFrontOf}
 use Rattle.sd_link.specs.Link.{last_tick, IsReached, NothingWaits, IsAtRest}
 use Rattle.sd_link.specs.Printing.{record_text}
 use Rattle.sd_segment.specs.declared.flown.Origin.TheVariants as origin
 use Rattle.sd_segment.specs.declared.flown.Flown.{Flown}
 use Rattle.sd_segment.specs.declared.flown.Kept.{Kept}
-use Rattle.sd_segment.specs.declared.flown.What.TheVariants.{Sent, Served, Again, Ended, Got}
-use Rattle.sd_server.specs.declared.sessions.Sending.{Sending}
-use Rattle.sd_server.specs.declared.sessions.Answer.{Answer}
+use Rattle.sd_segment.specs.declared.flown.What.TheVariants.{Sent, Served, Got, Failed}
 use Rattle.sd_segment.specs.Flight.{flying_of, packet_or, replied, reply_of, delays_of, AllFated}
-use Rattle.sd_server.specs.Server.{ServerView, session_of, packets_in, changed, Answers, IsNext}
+use Rattle.sd_segment.specs.Calm.{CalmView}
 use Rattle.sd_segment.specs.Kept.{steps_kept, entries_kept, ids_end}
 use Rattle.sd_segment.specs.Segment.{SegmentView, IsSound, Rests, world_at, history_of, text_drained}
-use Rattle.sd_segment.specs.Passing.{Passes}
+use Rattle.sd_segment.specs.Passing.{Passes, Fails}
 use Rattle.sd_segment.proofs.Fates.{IsTimely, timely, fated-push}
 use Rattle.sd_segment.proofs.Dues.{IsComing, all_coming, all-suffix}
-use Rattle.sd_segment.proofs.Keeping.{kept-push, kept-grow, tick-push, get-last, keep_sent, keep_served, keep_again, keep_ended, keep_got, keep_tick}
+use Rattle.sd_segment.proofs.Keeping.{kept-push, kept-grow, tick-push, get-last, keep_sent, keep_served, keep_got, keep_failed, keep_tick}
+use Rattle.sd_config.specs.Plan.{strays_of}
+use Rattle.sd_segment.proofs.Straying.{strays_on, within_send, within_serve, within_get, within_fail}
 use Rattle.sd_segment.proofs.Printed.{all_lines}
-use Rattle.sd_segment.proofs.Turning.{turn_sent, turn_served, turn_again, turn_ended, turn_got, turn_tick}
+use Rattle.sd_segment.proofs.Turning.{turn_sent, turn_served, turn_got, turn_failed, turn_tick}
 
 -- ---- what a sound segment knows
 
@@ -63,8 +63,12 @@ rests_of s i ready =
     let there = world_at s.server s.flight s.tick in
     let all : ServerRests s.config fates there entries =
     (sym (append-nil (served_at s.tick entries)) ∙ ap (λ (l : List ℕ). served_at s.tick entries ++ l) (sym ready.served) ∙ i.turns.server, ready.sessions) in
-    subst (λ (w : World). ServerRests s.config fates w (whole_record h)) (sym i.keeps.world)
-    (subst (λ (l : List Entry). ServerRests s.config fates there l) (sym i.keeps.entries) all)
+    record {
+      server =
+          subst (λ (w : World). ServerRests s.config fates w (whole_record h)) (sym i.keeps.world)
+          (subst (λ (l : List Entry). ServerRests s.config fates there l) (sym i.keeps.entries) all);
+      strangers = subst (λ (w : World). strayed w ≡ strays_of s.events w.tick) (sym i.keeps.world) (sym (append-nil (strayed there)) ∙ i.strays.left);
+    }
 
 pub drained_front : (s : SegmentView) → IsSound s → IsFrontOf (text_drained s) (record_text (whole_record (history_of s)))
 drained_front s i = (record_text (entries_kept s.flight (drop s.drained s.kept)), sym (all_lines s.flight s.kept s.drained) ∙ ap record_text (sym i.keeps.entries))
@@ -110,9 +114,9 @@ ids-take (suc n) m [] ids = tt
 ids-take (suc n) m (k ∷ ks) ids = (ids.0, ids-take n m ks ids.1)
 
 -- what was drained stays what it was
-text-push : (s : SegmentView) (more : List Flown) (k : Kept) → IsSound s → record_text (entries_kept (s.flight ++ more) (take s.drained (s.kept ++ k ∷ []))) ≡ text_drained s
-text-push s more k i =
-    ap (λ (l : List Kept). record_text (entries_kept (s.flight ++ more) l)) (take-append-le s.drained s.kept (k ∷ []) i.drained)
+pub text-push : (s : SegmentView) (more : List Flown) (ks : List Kept) → IsSound s → record_text (entries_kept (s.flight ++ more) (take s.drained (s.kept ++ ks))) ≡ text_drained s
+text-push s more ks i =
+    ap (λ (l : List Kept). record_text (entries_kept (s.flight ++ more) l)) (take-append-le s.drained s.kept ks i.drained)
     ∙ ap record_text (kept-grow s.flight more (take s.drained s.kept) (ids-take s.drained (length s.flight) s.kept i.keeps.ids))
 
 drained-push : (n : ℕ) (kept : List Kept) (k : Kept) → n ≤ length kept → n ≤ length (kept ++ k ∷ [])
@@ -131,8 +135,13 @@ pub sound_sent : (s : SegmentView) (packet : Packet) (fate : Option ℕ) → IsS
 sound_sent s packet fate i ready room is =
     let f = flown_of s.tick fate packet in
     let here : 0 + length s.flight ≡ length s.flight = omega arith in
+    let k = keep_sent s.config s.server s.flight s.kept s.tick packet fate i.keeps in
+    let next = sent_next s packet fate in
     record {
-      keeps = keep_sent s.config s.server s.flight s.kept s.tick packet fate i.keeps;
+      keeps = k;
+      strays = strays_on s.config (strays_of s.events) (steps_kept s.flight s.kept s.tick) (steps_kept next.flight next.kept s.tick) (Send packet ∷ []) (world_at s.server s.flight s.tick) (world_at next.server next.flight s.tick)
+          (kept-push s.flight (f ∷ []) s.kept s.tick (Sent (length s.flight)) i.keeps.ids ∙ ap (λ (o : Option Flown). steps_kept s.flight s.kept s.tick ++ Send (packet_or o) ∷ []) (get-last s.flight f))
+          i.keeps.world k.world (within_send packet) i.strays;
       turns = turn_sent s.config (fates_of s.events) s.server s.flight s.kept s.tick f packet s.to_server s.to_client i.keeps i.turns (timely_of s i) refl ready.served ready.sessions (ap (λ (o : Option Flown). Send (packet_or o)) (get-last s.flight f));
       fated = fated-push s.events.fates 0 s.flight f i.fated (is ∙ ap (λ (n : ℕ). fate_in s.events.fates n) (sym here));
       events = i.events;
@@ -150,7 +159,7 @@ passes_sent s packet fate i j =
       config = refl;
       events = refl;
       steps = kept-push s.flight (f ∷ []) s.kept s.tick (Sent (length s.flight)) i.keeps.ids ∙ ap (λ (o : Option Flown). steps_kept s.flight s.kept s.tick ++ Send (packet_or o) ∷ []) (get-last s.flight f);
-      drained = text-push s (f ∷ []) (record { tick = s.tick; what = Sent (length s.flight) }) i;
+      drained = text-push s (f ∷ []) (record { tick = s.tick; what = Sent (length s.flight) } ∷ []) i;
       faults = refl;
       broken = refl;
       bounded = bounded_of (sent_next s packet fate) j;
@@ -159,9 +168,9 @@ passes_sent s packet fate i j =
 
 -- ---- the server is given a packet
 
-abbrev pub served_next : SegmentView → ℕ → Option ℕ → Answer → SegmentView
-served_next s id fate a = let packets = packets_in a.out in record s {
-  server = changed s.config s.server a.change;
+abbrev pub served_next : SegmentView → ℕ → Option ℕ → List Packet → ServerPart → SegmentView
+served_next s id fate packets part = record s {
+  server = part;
   flight = s.flight ++ replied s.tick fate packets;
   kept = s.kept ++ record { tick = s.tick; what = Served id (length s.flight) (length packets) } ∷ [];
   to_server = drop 1 s.to_server;
@@ -171,126 +180,90 @@ replied-fresh : (tick : ℕ) (fate : Option ℕ) (packets : List Packet) → All
 replied-fresh tick fate [] = tt
 replied-fresh tick fate (p ∷ ps) = (refl, replied-fresh tick fate ps)
 
-pub sound_served : (s : SegmentView) (id : ℕ) (f : Flown) (fate : Option ℕ) (a : Answer) → IsSound s → slice_get s.to_server 0 ≡ Some id → slice_get s.flight id ≡ Some f
-    → Answers s.config s.server a (reply s.config s.tick s.server f.packet) → length s.flight < last_tick → delays_of s.events.fates fate ≡ fate_in s.events.fates (length s.flight)
-    → IsSound (served_next s id fate a)
-sound_served s id f fate a i next at is room fated =
-    let packets = packets_in a.out in
-    let becomes = changed s.config s.server a.change in
+pub sound_served : (s : SegmentView) (id : ℕ) (f : Flown) (fate : Option ℕ) (packets : List Packet) (part : ServerPart) → IsSound s → slice_get s.to_server 0 ≡ Some id → slice_get s.flight id ≡ Some f
+    → packets ≡ out_of s.config s.tick s.server f.packet → part ≡ next_of s.config s.tick s.server f.packet → length packets ≤ 1
+    → length s.flight < last_tick → delays_of s.events.fates fate ≡ fate_in s.events.fates (length s.flight)
+    → IsSound (served_next s id fate packets part)
+sound_served s id f fate packets part i next at out becomes few room fated =
     let more = replied s.tick fate packets in
+    let k = keep_served s.config s.server part s.flight s.kept s.tick id f fate packets i.keeps at (coming_to_server s id i next) out becomes in
+    let after = served_next s id fate packets part in
     record {
-      keeps = keep_served s.config s.server becomes s.flight s.kept s.tick id f fate packets i.keeps at (coming_to_server s id i next) is.out is.next;
-      turns = turn_served s.config (fates_of s.events) s.server becomes s.flight more s.kept s.tick id (length s.flight) (length packets) s.to_server s.to_client i.keeps i.turns (timely_of s i) (replied-fresh s.tick fate packets) next;
-      fated = fated_out a.out;
+      keeps = k;
+      strays = strays_on s.config (strays_of s.events) (steps_kept s.flight s.kept s.tick) (steps_kept after.flight after.kept s.tick) (Serve id ∷ []) (world_at s.server s.flight s.tick) (world_at after.server after.flight s.tick)
+          (kept-push s.flight more s.kept s.tick (Served id (length s.flight) (length packets)) i.keeps.ids)
+          i.keeps.world k.world (within_serve id) i.strays;
+      turns = turn_served s.config (fates_of s.events) s.server part s.flight more s.kept s.tick id (length s.flight) (length packets) s.to_server s.to_client i.keeps i.turns (timely_of s i) (replied-fresh s.tick fate packets) next;
+      fated = fated_out packets few;
       events = i.events;
       config = i.config;
       tick = i.tick;
-      ids = few_out a.out;
+      ids = few_out packets few;
       drained = drained-push s.drained s.kept _ i.drained;
       calm = i.calm;
     }
   where
-    fated_out : (o : Option Packet) → AllFated s.events.fates 0 (s.flight ++ replied s.tick fate (packets_in o))
-    fated_out None = subst (λ (l : List Flown). AllFated s.events.fates 0 l) (sym (append-nil s.flight)) i.fated
-    fated_out (Some p) =
+    fated_out : (l : List Packet) → length l ≤ 1 → AllFated s.events.fates 0 (s.flight ++ replied s.tick fate l)
+    fated_out [] le = subst (λ (l : List Flown). AllFated s.events.fates 0 l) (sym (append-nil s.flight)) i.fated
+    fated_out (p ∷ []) le =
         let here : 0 + length s.flight ≡ length s.flight = omega arith in
         fated-push s.events.fates 0 s.flight (reply_of s.tick fate p) i.fated (fated ∙ ap (λ (n : ℕ). fate_in s.events.fates n) (sym here))
+    fated_out (p ∷ q ∷ l) le = absurd (omega (arith, le))
 
-    few_out : (o : Option Packet) → length (s.flight ++ replied s.tick fate (packets_in o)) ≤ last_tick
-    few_out None = omega (arith, i.ids, length-append s.flight [])
-    few_out (Some p) = omega (arith, room, length-append s.flight (reply_of s.tick fate p ∷ []))
+    few_out : (l : List Packet) → length l ≤ 1 → length (s.flight ++ replied s.tick fate l) ≤ last_tick
+    few_out [] le = omega (arith, i.ids, length-append s.flight [])
+    few_out (p ∷ []) le = omega (arith, room, length-append s.flight (reply_of s.tick fate p ∷ []))
+    few_out (p ∷ q ∷ l) le = absurd (omega (arith, le))
 
-pub passes_served : (s : SegmentView) (id : ℕ) (fate : Option ℕ) (a : Answer) → IsSound s → IsSound (served_next s id fate a) → Passes s (served_next s id fate a) (Serve id ∷ [])
-passes_served s id fate a i j =
-    let packets = packets_in a.out in
+pub passes_served : (s : SegmentView) (id : ℕ) (fate : Option ℕ) (packets : List Packet) (part : ServerPart) → IsSound s → IsSound (served_next s id fate packets part) → Passes s (served_next s id fate packets part) (Serve id ∷ [])
+passes_served s id fate packets part i j =
     let more = replied s.tick fate packets in
     record {
       config = refl;
       events = refl;
       steps = kept-push s.flight more s.kept s.tick (Served id (length s.flight) (length packets)) i.keeps.ids;
-      drained = text-push s more (record { tick = s.tick; what = Served id (length s.flight) (length packets) }) i;
+      drained = text-push s more (record { tick = s.tick; what = Served id (length s.flight) (length packets) } ∷ []) i;
       faults = refl;
       broken = refl;
-      bounded = bounded_of (served_next s id fate a) j;
+      bounded = bounded_of (served_next s id fate packets part) j;
       stood = ap (λ (w : World). w.tick) i.keeps.world;
     }
 
--- ---- a session has its turn
+-- ---- a receive fails
 
-abbrev pub again_next : SegmentView → Sending → Option ℕ → SegmentView
-again_next s session fate = record s {
-  server = record s.server { sessions = with_session (sent_again s.tick (session_of s.config session)) s.server.sessions };
-  flight = s.flight ++ reply_of s.tick fate (block_packet s.config (session_of s.config session)) ∷ [];
-  kept = s.kept ++ record { tick = s.tick; what = Again session.number (length s.flight) } ∷ [];
+abbrev pub failed_next : SegmentView → ℕ → SegmentView
+failed_next s faults = record s { kept = s.kept ++ record { tick = s.tick; what = Failed } ∷ []; faults = faults }
+
+pub sound_failed : (s : SegmentView) (faults : ℕ) → IsSound s → Rests s → s.tick ≡ last_tick → IsSound (failed_next s faults)
+sound_failed s faults i ready late = let k = keep_failed s.config s.server s.flight s.kept s.tick late i.keeps in record {
+  keeps = k;
+  strays = strays_on s.config (strays_of s.events) (steps_kept s.flight s.kept s.tick) (steps_kept s.flight (failed_next s faults).kept s.tick) (Fail ∷ []) (world_at s.server s.flight s.tick) (world_at s.server s.flight s.tick)
+      (ap (λ (l : List Flown). steps_kept l (failed_next s faults).kept s.tick) (sym (append-nil s.flight)) ∙ kept-push s.flight [] s.kept s.tick Failed i.keeps.ids)
+      i.keeps.world k.world within_fail i.strays;
+  turns = turn_failed s.config (fates_of s.events) s.server s.flight s.kept s.tick s.to_server s.to_client i.keeps i.turns (timely_of s i) ready.served ready.sessions;
+  fated = i.fated;
+  events = i.events;
+  config = i.config;
+  tick = i.tick;
+  ids = i.ids;
+  drained = drained-push s.drained s.kept _ i.drained;
+  calm = inr late;
 }
 
-pub sound_again : (s : SegmentView) (session : Sending) (fate : Option ℕ) → IsSound s → s.to_server ≡ [] → IsNext s.config s.server s.tick session → session.sends < s.config.tries
-    → length s.flight < last_tick → delays_of s.events.fates fate ≡ fate_in s.events.fates (length s.flight) → IsSound (again_next s session fate)
-sound_again s session fate i served n few room is =
-    let f = reply_of s.tick fate (block_packet s.config (session_of s.config session)) in
-    let here : 0 + length s.flight ≡ length s.flight = omega arith in
-    let next = again_next s session fate in
-    record {
-      keeps = keep_again s.config s.server s.flight s.kept s.tick session.number fate (session_of s.config session) i.keeps n.found n.due few;
-      turns = turn_again s.config (fates_of s.events) s.server next.server s.flight s.kept s.tick session.number f s.to_server s.to_client i.keeps i.turns (timely_of s i) refl served (n.later, n.next);
-      fated = fated-push s.events.fates 0 s.flight f i.fated (is ∙ ap (λ (n : ℕ). fate_in s.events.fates n) (sym here));
-      events = i.events;
-      config = i.config;
-      tick = i.tick;
-      ids = omega (arith, room, length-append s.flight (f ∷ []));
-      drained = drained-push s.drained s.kept _ i.drained;
-      calm = i.calm;
-    }
-
-pub passes_again : (s : SegmentView) (session : Sending) (fate : Option ℕ) → IsSound s → IsSound (again_next s session fate) → Passes s (again_next s session fate) (Data session.number ∷ [])
-passes_again s session fate i j =
-    let f = reply_of s.tick fate (block_packet s.config (session_of s.config session)) in
-    record {
-      config = refl;
-      events = refl;
-      steps = kept-push s.flight (f ∷ []) s.kept s.tick (Again session.number (length s.flight)) i.keeps.ids;
-      drained = text-push s (f ∷ []) (record { tick = s.tick; what = Again session.number (length s.flight) }) i;
-      faults = refl;
-      broken = refl;
-      bounded = bounded_of (again_next s session fate) j;
-      stood = ap (λ (w : World). w.tick) i.keeps.world;
-    }
-
-abbrev pub ended_next : SegmentView → ℕ → SegmentView
-ended_next s number = record s {
-  server = record s.server { sessions = without_session number s.server.sessions };
-  kept = s.kept ++ record { tick = s.tick; what = Ended number } ∷ [];
-}
-
-pub sound_ended : (s : SegmentView) (session : Sending) → IsSound s → s.to_server ≡ [] → IsNext s.config s.server s.tick session → s.config.tries ≤ session.sends → IsSound (ended_next s session.number)
-sound_ended s session i served n enough =
-    let next = ended_next s session.number in
-    record {
-      keeps = keep_ended s.config s.server s.flight s.kept s.tick session.number (session_of s.config session) i.keeps n.found n.due enough;
-      turns = turn_ended s.config (fates_of s.events) s.server next.server s.flight s.kept s.tick session.number s.to_server s.to_client i.keeps i.turns (timely_of s i) served (n.later, n.next);
-      fated = i.fated;
-      events = i.events;
-      config = i.config;
-      tick = i.tick;
-      ids = i.ids;
-      drained = drained-push s.drained s.kept _ i.drained;
-      calm = i.calm;
-    }
-
-pub passes_ended : (s : SegmentView) (number : ℕ) → IsSound s → IsSound (ended_next s number) → Passes s (ended_next s number) (End number ∷ [])
-passes_ended s number i j =
-    let entry : Kept = record { tick = s.tick; what = Ended number } in
+pub passes_failed : (s : SegmentView) (faults : ℕ) → IsSound s → IsSound (failed_next s faults) → Fails s (failed_next s faults)
+passes_failed s faults i j =
+    let entry : Kept = record { tick = s.tick; what = Failed } in
     let none = append-nil s.flight in
     record {
       config = refl;
       events = refl;
       steps =
           ap (λ (l : List Flown). steps_kept l (s.kept ++ entry ∷ []) s.tick) (sym none)
-          ∙ kept-push s.flight [] s.kept s.tick (Ended number) i.keeps.ids;
-      drained = ap (λ (l : List Flown). record_text (entries_kept l (take s.drained (s.kept ++ entry ∷ [])))) (sym none) ∙ text-push s [] entry i;
+          ∙ kept-push s.flight [] s.kept s.tick Failed i.keeps.ids;
+      drained = ap (λ (l : List Flown). record_text (entries_kept l (take s.drained (s.kept ++ entry ∷ [])))) (sym none) ∙ text-push s [] (entry ∷ []) i;
       faults = refl;
       broken = refl;
-      bounded = bounded_of (ended_next s number) j;
+      bounded = bounded_of (failed_next s faults) j;
       stood = ap (λ (w : World). w.tick) i.keeps.world;
     }
 
@@ -305,8 +278,13 @@ got_step flight id f at = ap (λ (l : List Flown). Get id (packet_or (slice_get 
 pub sound_got : (s : SegmentView) (id handed : ℕ) (f : Flown) → IsSound s → Rests s → slice_get s.to_client 0 ≡ Some id → slice_get s.flight id ≡ Some f → IsSound (got_next s id handed)
 sound_got s id handed f i ready next at =
     let come = coming_to_client s id i next in
+    let k = keep_got s.config s.server s.flight s.kept s.tick id f i.keeps at (coming_inside s (goes_to_client s.config) id come) come in
     record {
-      keeps = keep_got s.config s.server s.flight s.kept s.tick id f i.keeps at (coming_inside s (goes_to_client s.config) id come) come;
+      keeps = k;
+      strays = strays_on s.config (strays_of s.events) (steps_kept s.flight s.kept s.tick) (steps_kept s.flight (got_next s id handed).kept s.tick) (Get id f.packet ∷ []) (world_at s.server s.flight s.tick) (world_at s.server s.flight s.tick)
+          (ap (λ (l : List Flown). steps_kept l (got_next s id handed).kept s.tick) (sym (append-nil s.flight)) ∙ kept-push s.flight [] s.kept s.tick (Got id) i.keeps.ids
+          ∙ ap (λ (x : Step). steps_kept s.flight s.kept s.tick ++ x ∷ []) (got_step s.flight id f at))
+          i.keeps.world k.world (within_get id f.packet) i.strays;
       turns = turn_got s.config (fates_of s.events) s.server s.flight s.kept s.tick id f.packet s.to_server s.to_client i.keeps i.turns (timely_of s i) ready.served ready.sessions next (got_step s.flight id f at);
       fated = i.fated;
       events = i.events;
@@ -328,48 +306,12 @@ passes_got s id handed f i at j =
           ap (λ (l : List Flown). steps_kept l (s.kept ++ entry ∷ []) s.tick) (sym none)
           ∙ kept-push s.flight [] s.kept s.tick (Got id) i.keeps.ids
           ∙ ap (λ (x : Step). steps_kept s.flight s.kept s.tick ++ x ∷ []) (got_step s.flight id f at);
-      drained = ap (λ (l : List Flown). record_text (entries_kept l (take s.drained (s.kept ++ entry ∷ [])))) (sym none) ∙ text-push s [] entry i;
+      drained = ap (λ (l : List Flown). record_text (entries_kept l (take s.drained (s.kept ++ entry ∷ [])))) (sym none) ∙ text-push s [] (entry ∷ []) i;
       faults = refl;
       broken = refl;
       bounded = bounded_of (got_next s id handed) j;
       stood = ap (λ (w : World). w.tick) i.keeps.world;
     }
-
--- ---- time goes on
-
-abbrev pub tick_next : SegmentView → List ℕ → List ℕ → SegmentView
-tick_next s to_server to_client = record s { tick = s.tick + 1; to_server = to_server; to_client = to_client }
-
-calm_before : (s : SegmentView) (t : ℕ) → s.tick < last_tick → (s.faults ≡ 0) ⊎ (s.tick ≡ last_tick) → (s.faults ≡ 0) ⊎ (t ≡ last_tick)
-calm_before s t early (inl none) = inl none
-calm_before s t early (inr late) = absurd (omega arith)
-
-pub sound_tick : (s : SegmentView) (to_server to_client : List ℕ) → IsSound s → s.tick < last_tick → Rests s → s.to_client ≡ []
-    → to_server ≡ due_to_server s.config (fates_of s.events) (world_at s.server s.flight (s.tick + 1)) → to_client ≡ due_to_client s.config (fates_of s.events) (world_at s.server s.flight (s.tick + 1))
-    → IsSound (tick_next s to_server to_client)
-sound_tick s to_server to_client i early ready no_client server_is client_is = record {
-  keeps = keep_tick s.config s.server s.flight s.kept s.tick i.keeps;
-  turns = turn_tick s.config (fates_of s.events) s.server s.flight s.kept s.tick s.to_server s.to_client to_server to_client i.keeps i.turns ready.served ready.sessions no_client server_is client_is;
-  fated = i.fated;
-  events = i.events;
-  config = i.config;
-  tick = omega arith;
-  ids = i.ids;
-  drained = i.drained;
-  calm = calm_before s (s.tick + 1) early i.calm;
-}
-
-pub passes_tick : (s : SegmentView) (to_server to_client : List ℕ) → IsSound s → IsSound (tick_next s to_server to_client) → Passes s (tick_next s to_server to_client) (Tick ∷ [])
-passes_tick s to_server to_client i j = record {
-  config = refl;
-  events = refl;
-  steps = tick-push s.flight s.kept s.tick i.keeps.ticks;
-  drained = refl;
-  faults = refl;
-  broken = refl;
-  bounded = bounded_of (tick_next s to_server to_client) j;
-  stood = ap (λ (w : World). w.tick) i.keeps.world;
-}
 
 -- ---- as a function's proof has it
 
@@ -388,12 +330,11 @@ sent_is s packet fate flight kept id f k here =
     let k2 : kept ≡ s.kept ++ record { tick = s.tick; what = Sent (length s.flight) } ∷ [] = k ∙ ap (λ (n : ℕ). s.kept ++ record { tick = s.tick; what = Sent n } ∷ []) here in
     λ i. record s { flight = f i; kept = k2 i }
 
-pub served_is : (s : SegmentView) (id : ℕ) (fate : Option ℕ) (a : Answer) (server : ServerView) (flight : List Flown) (kept : List Kept) (to_server : List ℕ) (first : ℕ)
-    → server ≡ record { config = s.config; part = changed s.config s.server a.change } → flight ≡ s.flight ++ replied s.tick fate (packets_in a.out)
-    → kept ≡ s.kept ++ record { tick = s.tick; what = Served id first (length (packets_in a.out)) } ∷ [] → first ≡ length s.flight → to_server ≡ drop 1 s.to_server
-    → record s { config = server.config; server = server.part; flight = flight; kept = kept; to_server = to_server } ≡ served_next s id fate a
-served_is s id fate a server flight kept to_server first b f k here left =
-    let packets = packets_in a.out in
+pub served_is : (s : SegmentView) (id : ℕ) (fate : Option ℕ) (packets : List Packet) (server : CalmView) (part : ServerPart) (flight : List Flown) (kept : List Kept) (to_server : List ℕ) (first : ℕ)
+    → server ≡ record { config = s.config; part = part } → flight ≡ s.flight ++ replied s.tick fate packets
+    → kept ≡ s.kept ++ record { tick = s.tick; what = Served id first (length packets) } ∷ [] → first ≡ length s.flight → to_server ≡ drop 1 s.to_server
+    → record s { config = server.config; server = server.part; flight = flight; kept = kept; to_server = to_server } ≡ served_next s id fate packets part
+served_is s id fate packets server part flight kept to_server first b f k here left =
     let k2 : kept ≡ s.kept ++ record { tick = s.tick; what = Served id (length s.flight) (length packets) } ∷ [] =
     k ∙ ap (λ (n : ℕ). s.kept ++ record { tick = s.tick; what = Served id n (length packets) } ∷ []) here in
     λ i. record s { config = (b i).config; server = (b i).part; flight = f i; kept = k2 i; to_server = left i }
@@ -402,21 +343,10 @@ pub got_is : (s : SegmentView) (id handed : ℕ) (kept : List Kept) (to_client :
     → record s { kept = kept; to_client = to_client; handed = handed } ≡ got_next s id handed
 got_is s id handed kept to_client k left = λ i. record s { kept = k i; to_client = left i; handed = handed }
 
-pub again_is : (s : SegmentView) (session : Sending) (fate : Option ℕ) (packet : Packet) (server : ServerView) (flight : List Flown) (kept : List Kept) (id : ℕ)
-    → packet ≡ block_packet s.config (session_of s.config session)
-    → server ≡ record { config = s.config; part = record s.server { sessions = with_session (sent_again s.tick (session_of s.config session)) s.server.sessions } }
-    → flight ≡ s.flight ++ reply_of s.tick fate packet ∷ [] → kept ≡ s.kept ++ record { tick = s.tick; what = Again session.number id } ∷ [] → id ≡ length s.flight
-    → record s { config = server.config; server = server.part; flight = flight; kept = kept } ≡ again_next s session fate
-again_is s session fate packet server flight kept id block b f k here =
-    let f2 : flight ≡ s.flight ++ reply_of s.tick fate (block_packet s.config (session_of s.config session)) ∷ [] = f ∙ ap (λ (p : Packet). s.flight ++ reply_of s.tick fate p ∷ []) block in
-    let k2 : kept ≡ s.kept ++ record { tick = s.tick; what = Again session.number (length s.flight) } ∷ [] = k ∙ ap (λ (n : ℕ). s.kept ++ record { tick = s.tick; what = Again session.number n } ∷ []) here in
-    λ i. record s { config = (b i).config; server = (b i).part; flight = f2 i; kept = k2 i }
-
-pub ended_is : (s : SegmentView) (number : ℕ) (server : ServerView) (kept : List Kept) → server ≡ record { config = s.config; part = record s.server { sessions = without_session number s.server.sessions } }
-    → kept ≡ s.kept ++ record { tick = s.tick; what = Ended number } ∷ [] → record s { config = server.config; server = server.part; kept = kept } ≡ ended_next s number
-ended_is s number server kept b k = λ i. record s { config = (b i).config; server = (b i).part; kept = k i }
+pub failed_is : (s : SegmentView) (faults : ℕ) (kept : List Kept) → kept ≡ s.kept ++ record { tick = s.tick; what = Failed } ∷ [] → record s { kept = kept; faults = faults } ≡ failed_next s faults
+failed_is s faults kept k = λ i. record s { kept = k i; faults = faults }
 
 -- a refused change leaves the segment as it was
-pub refused_is : (s : SegmentView) (server : ServerView) (flight : List Flown) (kept : List Kept) → server ≡ record { config = s.config; part = s.server } → flight ≡ s.flight → kept ≡ s.kept
+pub refused_is : (s : SegmentView) (server : CalmView) (flight : List Flown) (kept : List Kept) → server ≡ record { config = s.config; part = s.server } → flight ≡ s.flight → kept ≡ s.kept
     → record s { config = server.config; server = server.part; flight = flight; kept = kept } ≡ s
 refused_is s server flight kept b f k = λ i. record s { config = (b i).config; server = (b i).part; flight = f i; kept = k i }

@@ -9,14 +9,15 @@ use Rattle.sd_config.specs.declared.config.Config.{Config}
 use Rattle.sd_config.specs.Events.{Fates}
 use Rattle.sd_link.specs.World.{World, Flying, Sender, start}
 use Rattle.sd_services.specs.Part.{ServerPart}
-use Rattle.sd_link.specs.Steps.{Step, Tick, Send, Serve, Data, End, Get, Entry, goes_to_server, goes_to_client, record_of}
+use Rattle.sd_link.specs.Steps.{Step, Tick, Send, Stray, Serve, Data, End, Get, Fail, Entry, goes_to_server, goes_to_client, record_of}
 use Rattle.sd_link.specs.Steps as steps
-use Rattle.sd_link.specs.Lawful.{InTurn, AllInTurn, served_at, got_at, due, due_to_server, due_to_client, due_sessions, IsNextDue, IsFrontOf}
+use Rattle.sd_link.specs.Lawful.{InTurn, AllInTurn, id_at, served_at, got_at, due, due_to_server, due_to_client, due_sessions, IsNextDue, IsFrontOf}
+use Rattle.sd_link.specs.Lawful as lawful
 use Rattle.sd_link.proofs.Histories.{in_turn-append}
 use Rattle.sd_segment.specs.declared.flown.Flown.{Flown}
 use Rattle.sd_segment.specs.declared.flown.Kept.{Kept}
 use Rattle.sd_segment.specs.declared.flown.What.{What}
-use Rattle.sd_segment.specs.declared.flown.What.TheVariants.{Sent, Served, Again, Ended, Got}
+use Rattle.sd_segment.specs.declared.flown.What.TheVariants.{Sent, Strayed, Served, Again, Ended, Got, Failed}
 use Rattle.sd_segment.specs.Flight.{flying_of}
 use Rattle.sd_segment.specs.Kept.{step_of, steps_kept, sent_entries, entries_of_kept, entries_kept, ids_end}
 use Rattle.sd_segment.specs.Segment.{Keeps, Turns, world_at}
@@ -27,26 +28,10 @@ use Rattle.sd_segment.proofs.Keeping.{kept-push, kept-grow, tick-push, all-push}
 -- ---- what came at a tick
 
 served-append : (t : ℕ) (xs ys : List Entry) → served_at t (xs ++ ys) ≡ served_at t xs ++ served_at t ys
-served-append t [] ys = refl
-served-append t (steps.Sent u id p ∷ xs) ys = served-append t xs ys
-served-append t (steps.Got u id ∷ xs) ys = served-append t xs ys
-served-append t (steps.Served u id ∷ xs) ys = of (u == t) (served-append t xs ys)
-  where
-    of : (b : Bool) → served_at t (xs ++ ys) ≡ served_at t xs ++ served_at t ys
-        → cond b (id ∷ served_at t (xs ++ ys)) (served_at t (xs ++ ys)) ≡ cond b (id ∷ served_at t xs) (served_at t xs) ++ served_at t ys
-    of true so = ap (λ (l : List ℕ). id ∷ l) so
-    of false so = so
+served-append t xs ys = flat_map-append (λ (e : Entry). id_at t (lawful.to_server e)) xs ys
 
 got-append : (t : ℕ) (xs ys : List Entry) → got_at t (xs ++ ys) ≡ got_at t xs ++ got_at t ys
-got-append t [] ys = refl
-got-append t (steps.Sent u id p ∷ xs) ys = got-append t xs ys
-got-append t (steps.Served u id ∷ xs) ys = got-append t xs ys
-got-append t (steps.Got u id ∷ xs) ys = of (u == t) (got-append t xs ys)
-  where
-    of : (b : Bool) → got_at t (xs ++ ys) ≡ got_at t xs ++ got_at t ys
-        → cond b (id ∷ got_at t (xs ++ ys)) (got_at t (xs ++ ys)) ≡ cond b (id ∷ got_at t xs) (got_at t xs) ++ got_at t ys
-    of true so = ap (λ (l : List ℕ). id ∷ l) so
-    of false so = so
+got-append t xs ys = flat_map-append (λ (e : Entry). id_at t (lawful.to_client e)) xs ys
 
 served-sent : (t tick id : ℕ) (sent : List Flown) → served_at t (sent_entries tick id sent) ≡ []
 served-sent t tick id [] = refl
@@ -60,30 +45,34 @@ got-sent t tick id (f ∷ fs) = got-sent t tick (id + 1) fs
 pub served_here : (flight : List Flown) (tick id first count : ℕ) → served_at tick (entries_of_kept flight tick (Served id first count)) ≡ id ∷ []
 served_here flight tick id first count =
     let sent = sent_entries tick first (take count (drop first flight)) in
-    ap (λ (b : Bool). cond b (id ∷ served_at tick sent) (served_at tick sent)) (eq-eqb tick tick refl) ∙ ap (λ (l : List ℕ). id ∷ l) (served-sent tick tick first (take count (drop first flight)))
+    ap (λ (b : Bool). cond b (id ∷ []) [] ++ served_at tick sent) (eq-eqb tick tick refl) ∙ ap (λ (l : List ℕ). id ∷ l) (served-sent tick tick first (take count (drop first flight)))
 
 pub got_here : (flight : List Flown) (tick id : ℕ) → got_at tick (entries_of_kept flight tick (Got id)) ≡ id ∷ []
-got_here flight tick id = ap (λ (b : Bool). cond b (id ∷ []) []) (eq-eqb tick tick refl)
+got_here flight tick id = ap (λ (b : Bool). cond b (id ∷ []) [] ++ []) (eq-eqb tick tick refl)
 
 -- what was kept at other ticks brings nothing
 served-other : (flight : List Flown) (t tick : ℕ) (what : What) → tick < t → served_at t (entries_of_kept flight tick what) ≡ []
 served-other flight t tick (Sent id) lt = served-sent t tick id (take 1 (drop id flight))
+served-other flight t tick (Strayed id) lt = served-sent t tick id (take 1 (drop id flight))
 served-other flight t tick (Served id first count) lt =
     let sent = sent_entries tick first (take count (drop first flight)) in
     let other : (tick == t) ≡ false = grind (arith, lt) in
-    ap (λ (b : Bool). cond b (id ∷ served_at t sent) (served_at t sent)) other ∙ served-sent t tick first (take count (drop first flight))
+    ap (λ (b : Bool). cond b (id ∷ []) [] ++ served_at t sent) other ∙ served-sent t tick first (take count (drop first flight))
 served-other flight t tick (Again number id) lt = served-sent t tick id (take 1 (drop id flight))
 served-other flight t tick (Ended number) lt = refl
 served-other flight t tick (Got id) lt = refl
+served-other flight t tick Failed lt = refl
 
 got-other : (flight : List Flown) (t tick : ℕ) (what : What) → tick < t → got_at t (entries_of_kept flight tick what) ≡ []
 got-other flight t tick (Sent id) lt = got-sent t tick id (take 1 (drop id flight))
+got-other flight t tick (Strayed id) lt = got-sent t tick id (take 1 (drop id flight))
 got-other flight t tick (Served id first count) lt = got-sent t tick first (take count (drop first flight))
 got-other flight t tick (Again number id) lt = got-sent t tick id (take 1 (drop id flight))
 got-other flight t tick (Ended number) lt = refl
 got-other flight t tick (Got id) lt =
     let other : (tick == t) ≡ false = grind (arith, lt) in
-    ap (λ (b : Bool). cond b (id ∷ []) []) other
+    ap (λ (b : Bool). cond b (id ∷ []) [] ++ []) other
+got-other flight t tick Failed lt = refl
 
 served-past : (flight : List Flown) (tick : ℕ) (kept : List Kept) → AllByRecursion (λ k. k.tick ≤ tick) kept → served_at (tick + 1) (entries_kept flight kept) ≡ []
 served-past flight tick [] past = refl
@@ -260,6 +249,30 @@ turn_ended c fates part next flight kept tick number to_server to_client k t tim
     subst (λ (l : List Flown). Turns c fates next l (kept ++ record { tick = tick; what = Ended number } ∷ []) tick to_server to_client) (append-nil flight)
     (turn_step c fates part next flight [] kept tick (Ended number) (End number) to_server to_client to_server to_client k t timely tt refl
     (all_served (served_at tick (entries_kept flight kept)) to_server (due_to_server c fates (world_at part flight tick)) t.server none, due_next)
+    refl
+    refl)
+
+-- a stranger sends
+pub turn_strayed : (c : Config) (fates : Fates) (part : ServerPart) (flight : List Flown) (kept : List Kept) (tick : ℕ) (f : Flown) (packet : Packet) (to_server to_client : List ℕ)
+    → Keeps c part flight kept tick → Turns c fates part flight kept tick to_server to_client → IsTimely c.life fates → f.tick ≡ tick
+    → step_of (flight ++ f ∷ []) (Strayed (length flight)) ≡ Stray packet
+    → Turns c fates part (flight ++ f ∷ []) (kept ++ record { tick = tick; what = Strayed (length flight) } ∷ []) tick to_server to_client
+turn_strayed c fates part flight kept tick f packet to_server to_client k t timely now is =
+    let all = flight ++ f ∷ [] in
+    let id = length flight in
+    turn_step c fates part part flight (f ∷ []) kept tick (Strayed id) (Stray packet) to_server to_client to_server to_client k t timely (now, tt) is
+    tt
+    (ap (λ (l : List ℕ). l ++ to_server) (served-sent tick tick id (take 1 (drop id all))))
+    (ap (λ (l : List ℕ). l ++ to_client) (got-sent tick tick id (take 1 (drop id all))))
+
+-- a receive fails
+pub turn_failed : (c : Config) (fates : Fates) (part : ServerPart) (flight : List Flown) (kept : List Kept) (tick : ℕ) (to_server to_client : List ℕ)
+    → Keeps c part flight kept tick → Turns c fates part flight kept tick to_server to_client → IsTimely c.life fates → to_server ≡ [] → due_sessions c (world_at part flight tick) ≡ []
+    → Turns c fates part flight (kept ++ record { tick = tick; what = Failed } ∷ []) tick to_server to_client
+turn_failed c fates part flight kept tick to_server to_client k t timely none rests =
+    subst (λ (l : List Flown). Turns c fates part l (kept ++ record { tick = tick; what = Failed } ∷ []) tick to_server to_client) (append-nil flight)
+    (turn_step c fates part part flight [] kept tick Failed Fail to_server to_client to_server to_client k t timely tt refl
+    (all_served (served_at tick (entries_kept flight kept)) to_server (due_to_server c fates (world_at part flight tick)) t.server none, rests)
     refl
     refl)
 

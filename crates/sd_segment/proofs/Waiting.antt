@@ -4,14 +4,14 @@ use Rattle.std.proofs.lemmas.List.{append-nil}
 use Rattle.std.specs.Prelude.{slice_get, ◌⊎◌}
 use Rattle.sd_outside.specs.declared.packet.Packet.{Packet}
 use Rattle.sd_config.specs.declared.config.Config.{Config}
-use Rattle.sd_link.specs.declared.link.LinkError.{LinkError}
+use Rattle.sd_link.specs.declared.link.LinkError.TheVariants.{NoMemory, Failed}
 use Rattle.sd_link.specs.World.{World}
-use Rattle.sd_link.specs.Steps.{Step, Tick, Send, Serve, Data, End, Get, after, run, world_of}
-use Rattle.sd_link.specs.Parts.{sends_in, got_in}
+use Rattle.sd_link.specs.Steps.{Step, Tick, Stray, Serve, Data, End, Get, Fail, after, run, world_of}
+use Rattle.sd_link.specs.Parts.{sends_in, got_in, fails_in}
 use Rattle.sd_link.specs.Link.{GoesOn, Moves, TicksBefore, Receives, IsReached, NothingWaits}
-use Rattle.sd_link.proofs.Histories.{sends-append, got-append, before-append, world-goes, goes_nowhere, goes_lawful, settled-goes}
+use Rattle.sd_link.proofs.Histories.{sends-append, got-append, fails-append, before-append, world-goes, goes_nowhere, goes_lawful, settled-goes}
 use Rattle.sd_segment.specs.Segment.{SegmentView, history_of, text_drained}
-use Rattle.sd_segment.specs.Passing.{Passes, WentOn, AllServes, TakesTurn, Advances, Waits}
+use Rattle.sd_segment.specs.Passing.{Passes, WentOn, AllServes, AllTurns, TakesTurns, Fails, Advances, Waits}
 
 -- ---- one part after another
 
@@ -40,12 +40,11 @@ went_then a b c xs ys (inl same) second =
 
 serves-append : (xs ys : List Step) → AllServes xs → AllServes ys → AllServes (xs ++ ys)
 serves-append [] ys first second = second
+serves-append (Stray packet ∷ xs) ys first second = serves-append xs ys first second
 serves-append (Serve id ∷ xs) ys first second = serves-append xs ys first second
 serves-append (Data number ∷ xs) ys first second = serves-append xs ys first second
 serves-append (End number ∷ xs) ys first second = serves-append xs ys first second
-serves-append (Tick ∷ xs) ys first second = absurd first
-serves-append (Send packet ∷ xs) ys first second = absurd first
-serves-append (Get id packet ∷ xs) ys first second = absurd first
+serves-append (others ∷ xs) ys first second = absurd first
 
 -- what serving did so far, and what it did in all
 abbrev pub Serves : SegmentView → SegmentView → Type 0
@@ -57,9 +56,15 @@ serves_none s = ([], inl (refl, refl), tt)
 pub serves_more : (old mid new : SegmentView) (id : ℕ) → Serves old mid → Passes mid new (Serve id ∷ []) → Serves old new
 serves_more old mid new id m p = (m.0 ++ (Serve id ∷ []), inr (went_then old mid new m.0 (Serve id ∷ []) m.1 p), serves-append m.0 (Serve id ∷ []) m.2 tt)
 
--- one session more had its turn
-pub serves_turn : (old mid new : SegmentView) → Serves old mid → TakesTurn mid new → Serves old new
-serves_turn old mid new m (step, p, serves) = (m.0 ++ (step ∷ []), inr (went_then old mid new m.0 (step ∷ []) m.1 p), serves-append m.0 (step ∷ []) m.2 serves)
+turns_serve : (steps : List Step) → AllTurns steps → AllServes steps
+turns_serve [] all = tt
+turns_serve (Data number ∷ steps) all = turns_serve steps all
+turns_serve (End number ∷ steps) all = turns_serve steps all
+turns_serve (others ∷ steps) all = absurd all
+
+-- the sessions had their turns
+pub serves_turns : (old new : SegmentView) → TakesTurns old new → Serves old new
+serves_turns old new (turns, p, all) = (turns, inr p, turns_serve turns all)
 
 -- one part after another
 pub serves_then : (old mid new : SegmentView) → Serves old mid → Serves mid new → Serves old new
@@ -69,9 +74,9 @@ serves_then old mid new m (more, went, serves) = of went
     of (inl same) = subst (λ (v : SegmentView). Serves old v) (sym same.1) m
     of (inr p) = (m.0 ++ more, inr (went_then old mid new m.0 more m.1 p), serves-append m.0 more m.2 serves)
 
--- a tick passed, and then the server did what was due to it
-pub advances : (old mid new : SegmentView) → Passes old mid (Tick ∷ []) → Serves mid new → Advances old new
-advances old mid new p m = (m.0, passes_went old mid new (Tick ∷ []) m.0 p m.1, m.2)
+-- a tick passed, at which strangers sent, and then the server did what was due to it
+pub advances : (old mid new : SegmentView) → Advances old mid → Serves mid new → Advances old new
+advances old mid new (sent, p, serves) m = (sent ++ m.0, passes_went old mid new (Tick ∷ sent) m.0 p m.1, serves-append sent m.0 serves m.2)
 
 -- none is next where none is left
 pub none_left : (xs : List ℕ) (next : Option ℕ) → next ≡ slice_get xs 0 → next ≡ None → xs ≡ []
@@ -99,33 +104,38 @@ went_drained old new part (inl same) = ap text_drained same.1
 
 serves-silent : (steps : List Step) → AllServes steps → sends_in steps ≡ []
 serves-silent [] all = refl
+serves-silent (Stray packet ∷ steps) all = serves-silent steps all
 serves-silent (Serve id ∷ steps) all = serves-silent steps all
 serves-silent (Data number ∷ steps) all = serves-silent steps all
 serves-silent (End number ∷ steps) all = serves-silent steps all
-serves-silent (Tick ∷ steps) all = absurd all
-serves-silent (Send packet ∷ steps) all = absurd all
-serves-silent (Get id packet ∷ steps) all = absurd all
+serves-silent (others ∷ steps) all = absurd all
 
 serves-got : (steps : List Step) → AllServes steps → got_in steps ≡ []
 serves-got [] all = refl
+serves-got (Stray packet ∷ steps) all = serves-got steps all
 serves-got (Serve id ∷ steps) all = serves-got steps all
 serves-got (Data number ∷ steps) all = serves-got steps all
 serves-got (End number ∷ steps) all = serves-got steps all
-serves-got (Tick ∷ steps) all = absurd all
-serves-got (Send packet ∷ steps) all = absurd all
-serves-got (Get id packet ∷ steps) all = absurd all
+serves-got (others ∷ steps) all = absurd all
+
+serves-fails : (steps : List Step) → AllServes steps → fails_in steps ≡ 0
+serves-fails [] all = refl
+serves-fails (Stray packet ∷ steps) all = serves-fails steps all
+serves-fails (Serve id ∷ steps) all = serves-fails steps all
+serves-fails (Data number ∷ steps) all = serves-fails steps all
+serves-fails (End number ∷ steps) all = serves-fails steps all
+serves-fails (others ∷ steps) all = absurd all
 
 serves-ticks : (until : ℕ) (c : Config) (w : World) (steps : List Step) → AllServes steps → TicksBefore until c w steps
 serves-ticks until c w [] all = tt
+serves-ticks until c w (Stray packet ∷ steps) all = serves-ticks until c (after c w (Stray packet)) steps all
 serves-ticks until c w (Serve id ∷ steps) all = serves-ticks until c (after c w (Serve id)) steps all
 serves-ticks until c w (Data number ∷ steps) all = serves-ticks until c (after c w (Data number)) steps all
 serves-ticks until c w (End number ∷ steps) all = serves-ticks until c (after c w (End number)) steps all
-serves-ticks until c w (Tick ∷ steps) all = absurd all
-serves-ticks until c w (Send packet ∷ steps) all = absurd all
-serves-ticks until c w (Get id packet ∷ steps) all = absurd all
+serves-ticks until c w (others ∷ steps) all = absurd all
 
 pub waits_none : (until : ℕ) (s : SegmentView) → Waits until s s []
-waits_none until s = record { went = inl (refl, refl); silent = refl; got = refl; ticks = tt }
+waits_none until s = record { went = inl (refl, refl); silent = refl; got = refl; fails = refl; ticks = tt }
 
 module _ (until : ℕ) (old mid new : SegmentView) (part ys : List Step) (w : Waits until old mid part) where
   -- the world after the wait so far
@@ -141,6 +151,9 @@ module _ (until : ℕ) (old mid new : SegmentView) (part ys : List Step) (w : Wa
   pub got_then : got_in ys ≡ [] → got_in (part ++ ys) ≡ []
   got_then g = got-append part ys ∙ ap (λ (l : List Packet). l ++ got_in ys) w.got ∙ g
 
+  pub fails_then : (n : ℕ) → fails_in ys ≡ n → fails_in (part ++ ys) ≡ n
+  fails_then n f = omega (arith, fails-append part ys, w.fails, f)
+
 -- one tick more
 pub waits_more : (until : ℕ) (old mid new : SegmentView) (part : List Step) → Waits until old mid part → mid.tick < until → Advances mid new → (more : List Step) × Waits until old new more
 waits_more until old mid new part w lt (served, p, all) = (
@@ -149,6 +162,7 @@ waits_more until old mid new part w lt (served, p, all) = (
     went = inr (went_then old mid new part (Tick ∷ served) w.went p);
     silent = silent_then until old mid new part (Tick ∷ served) w (serves-silent served all);
     got = got_then until old mid new part (Tick ∷ served) w (serves-got served all);
+    fails = fails_then until old mid new part (Tick ∷ served) w 0 (serves-fails served all);
     ticks = ticks_then until old mid new part (Tick ∷ served) w (omega (arith, p.stood), serves-ticks until old.config (after old.config (world_of (history_of mid)) Tick) served all);
   },
 )
@@ -169,6 +183,7 @@ receives_packet until old mid new part id packet w p = (
     silent = silent_then until old mid new part (Get id packet ∷ []) w refl;
     ticks = ticks_then until old mid new part (Get id packet ∷ []) w tt;
     hands = (part, id, refl, w.got);
+    fails = fails_then until old mid new part (Get id packet ∷ []) w 0 refl;
   },
 )
 
@@ -185,9 +200,24 @@ receives_none until old mid part w stood reached settled = (
       omega (arith, stood, ap (λ (v : World). v.tick) (world-goes (history_of old) (history_of mid) part (went_goes old mid part w.went))),
       settled-goes (history_of old) (history_of mid) part (went_goes old mid part w.went) settled,
     );
+    fails = w.fails;
   },
 )
 
-pub receives_err : (until : ℕ) (old mid : SegmentView) (part : List Step) (why : LinkError) → Waits until old mid part
-    → Moves (Some (history_of old)) (Some (history_of mid)) (Receives until (Err why))
-receives_err until old mid part why w = (part, went_goes old mid part w.went, record { silent = w.silent; ticks = w.ticks; hands = w.got })
+pub receives_err : (until : ℕ) (old mid : SegmentView) (part : List Step) → Waits until old mid part
+    → Moves (Some (history_of old)) (Some (history_of mid)) (Receives until (Err NoMemory))
+receives_err until old mid part w = (part, went_goes old mid part w.went, record { silent = w.silent; ticks = w.ticks; hands = w.got; fails = w.fails })
+
+pub receives_failed : (until : ℕ) (old mid new : SegmentView) (part : List Step) → Waits until old mid part → Fails mid new
+    → Moves (Some (history_of old)) (Some (history_of new)) (Receives until (Err Failed))
+receives_failed until old mid new part w p =
+    let calm : SegmentView = record new { faults = mid.faults } in (
+      part ++ (Fail ∷ []),
+      goes_of old calm (part ++ (Fail ∷ [])) (went_then old mid calm part (Fail ∷ []) w.went p),
+      record {
+        silent = silent_then until old mid calm part (Fail ∷ []) w refl;
+        ticks = ticks_then until old mid calm part (Fail ∷ []) w tt;
+        hands = (part, refl, got_then until old mid calm part (Fail ∷ []) w refl);
+        fails = fails_then until old mid calm part (Fail ∷ []) w 1 refl;
+      },
+    )

@@ -1,11 +1,11 @@
 -- The packets that a segment keeps, each with its fate.
-use Rattle.std.specs.Prelude.{◌≡◌, ℕ, ◌+◌, ◌==◌, Bool, List, [], ◌∷◌, map, filter, Option, Some, None, slice_get, if◌then◌else◌}
+use Rattle.std.specs.Prelude.{◌≡◌, ℕ, ◌+◌, ◌==◌, Bool, List, [], ◌∷◌, ◌++◌, length, map, filter, Option, Some, None, slice_get, if◌then◌else◌}
 use Rattle.sd_outside.specs.declared.packet.Packet.{Packet}
 use Rattle.sd_outside.specs.declared.packet.Packet.TheVariants.{Frame}
 use Rattle.sd_config.specs.declared.config.Config.{Config}
 use Rattle.sd_config.specs.declared.events.Fate.{Fate}
 use Rattle.sd_config.specs.Events.{fate_in}
-use Rattle.sd_link.specs.World.{Flying, Sender, Client, Server}
+use Rattle.sd_link.specs.World.{Flying, Sender, Client, Server, Stranger, flying}
 use Rattle.sd_link.specs.Steps.{goes_to_server, goes_to_client}
 use Rattle.sd_segment.specs.declared.flown.Origin.{Origin}
 use Rattle.sd_segment.specs.declared.flown.Origin.TheVariants as origin
@@ -16,6 +16,7 @@ use Rattle.sd_segment.specs.declared.ends.End.TheVariants as ends
 abbrev pub sender_of : Origin → Sender
 sender_of origin.Client = Client
 sender_of origin.Server = Server
+sender_of origin.Stranger = Stranger
 
 abbrev pub flying_of : Flown → Flying
 flying_of flown = record { from = sender_of flown.from; tick = flown.tick; packet = flown.packet }
@@ -49,6 +50,13 @@ delays_of fates (Some place) = delays_or (slice_get fates place)
 abbrev pub AllFated : List Fate → ℕ → List Flown → Type 0
 AllFated fates id [] = Unit {0}
 AllFated fates id (flown ∷ more) = (delays_of fates flown.fate ≡ fate_in fates id) × AllFated fates (id + 1) more
+
+-- packets went into flight at this tick, each with the fate of its id
+pub record Flies (fates : List Fate) (from : Origin) (tick : ℕ) (old : List Flown) (packets : List Packet) (new : List Flown) : Type 0 where
+  pub more : List Flown
+  pub added : new ≡ old ++ more
+  pub sent : map flying_of more ≡ map (flying (sender_of from) tick) packets
+  pub fated : AllFated fates (length old) more
 
 -- an id, once for each delay after which its packet comes at this tick
 abbrev pub copies : ℕ → ℕ → ℕ → List ℕ → List ℕ

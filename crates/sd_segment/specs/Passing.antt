@@ -1,8 +1,8 @@
 -- How a segment goes on.
 use Rattle.std.specs.Prelude.{◌≡◌, ◌⊎◌, ℕ, List, [], ◌∷◌, ◌++◌, Option, Some, None}
 use Rattle.sd_outside.specs.declared.packet.Packet.{Packet}
-use Rattle.sd_link.specs.Steps.{Step, Tick, Send, Serve, Data, End, Get, world_of}
-use Rattle.sd_link.specs.Parts.{sends_in, got_in}
+use Rattle.sd_link.specs.Steps.{Step, Tick, Stray, Serve, Data, End, Get, Fail, world_of}
+use Rattle.sd_link.specs.Parts.{sends_in, got_in, fails_in}
 use Rattle.sd_link.specs.Link.{TicksBefore, IsReached}
 use Rattle.sd_segment.specs.Segment.{SegmentView, history_of, text_drained}
 
@@ -19,23 +19,33 @@ pub record Passes (old new : SegmentView) (part : List Step) : Type 0 where
   -- and it stood where its world did
   pub stood : (world_of (history_of old)).tick ≡ old.tick
 
--- packets come to the server, its sessions have their turns, and nothing else happens
+-- strangers send, packets come to the server, its sessions have their turns, and nothing else happens
 abbrev pub AllServes : List Step → Type 0
 AllServes [] = Unit {0}
+AllServes (Stray packet ∷ steps) = AllServes steps
 AllServes (Serve id ∷ steps) = AllServes steps
 AllServes (Data number ∷ steps) = AllServes steps
 AllServes (End number ∷ steps) = AllServes steps
-AllServes (Tick ∷ steps) = ⊥
-AllServes (Send packet ∷ steps) = ⊥
-AllServes (Get id packet ∷ steps) = ⊥
+AllServes (others ∷ steps) = ⊥
 
 -- one tick passed, and the server did what was due to it
 abbrev pub Advances : SegmentView → SegmentView → Type 0
 Advances old new = (served : List Step) × Passes old new (Tick ∷ served) × AllServes served
 
--- a session had its turn
-abbrev pub TakesTurn : SegmentView → SegmentView → Type 0
-TakesTurn old new = (step : Step) × Passes old new (step ∷ []) × AllServes (step ∷ [])
+-- sessions have their turns, and nothing else happens
+abbrev pub AllTurns : List Step → Type 0
+AllTurns [] = Unit {0}
+AllTurns (Data number ∷ steps) = AllTurns steps
+AllTurns (End number ∷ steps) = AllTurns steps
+AllTurns (others ∷ steps) = ⊥
+
+-- the sessions had their turns
+abbrev pub TakesTurns : SegmentView → SegmentView → Type 0
+TakesTurns old new = (turns : List Step) × Passes old new turns × AllTurns turns
+
+-- a receive failed
+abbrev pub Fails : SegmentView → SegmentView → Type 0
+Fails old new = Passes old (record new { faults = old.faults }) (Fail ∷ [])
 
 -- a packet was handed out, or none waits
 abbrev pub HandsOut : SegmentView → SegmentView → Option Packet → Type 0
@@ -46,9 +56,11 @@ HandsOut old new (Some packet) = (id : ℕ) × Passes old new (Get id packet ∷
 abbrev pub WentOn : SegmentView → SegmentView → List Step → Type 0
 WentOn old new part = ((part ≡ []) × (new ≡ old)) ⊎ Passes old new part
 
--- what a wait does until a packet is handed out: the client sends nothing and gets nothing, and no tick passes from `until` on
+-- what a wait does until a packet is handed out: the client sends nothing and gets nothing, nothing fails, and no tick passes from
+-- `until` on
 pub record Waits (until : ℕ) (old new : SegmentView) (part : List Step) : Type 0 where
   pub went : WentOn old new part
   pub silent : sends_in part ≡ []
   pub got : got_in part ≡ []
+  pub fails : fails_in part ≡ 0
   pub ticks : TicksBefore until old.config (world_of (history_of old)) part

@@ -6,9 +6,7 @@ ghost use Rattle.sd_segment.specs.Flight.{sender_of, goes_to};
 
 use crate::flown::{Flown, Origin};
 use sd_config::Config;
-use sd_outside::Packet;
-
-const BROADCAST_IP: u32 = 0xffff_ffff;
+use sd_outside::{BROADCAST_IP, Packet};
 
 /// The end that a packet goes to.
 #[derive(Clone, Copy, Debug, PartialEq, Eq)]
@@ -22,7 +20,7 @@ fn goes_to_server(config: &Config, flown: &Flown) -> bool
 {
     match flown.from {
         Origin::Server => false,
-        Origin::Client => match &flown.packet {
+        Origin::Client | Origin::Stranger => match &flown.packet {
             Packet::Frame(_) => true,
             Packet::Udp { dst, .. } => dst.ip == config.server.ip || dst.ip == BROADCAST_IP,
         },
@@ -41,7 +39,7 @@ fn goes_to_client(config: &Config, flown: &Flown) -> bool
 {
     match flown.from {
         Origin::Client => false,
-        Origin::Server => match &flown.packet {
+        Origin::Server | Origin::Stranger => match &flown.packet {
             Packet::Frame(bytes) => begins_with(bytes.as_slice(), &config.client.mac.0),
             Packet::Udp { dst, .. } => dst.ip == config.client.ip,
         },

@@ -7,6 +7,7 @@ use sd_outside::Packet;
 pub enum Origin {
     Client,
     Server,
+    Stranger,
 }
 
 /// A packet that was sent, and when.
@@ -24,6 +25,10 @@ pub struct Flown {
 pub enum What {
     /// The client sent a packet.
     Sent {
+        id: usize,
+    },
+    /// A stranger sent a packet.
+    Strayed {
         id: usize,
     },
     /// A packet came to the server, which sent so many packets, with ids from `first` on.
@@ -45,6 +50,8 @@ pub enum What {
     Got {
         id: usize,
     },
+    /// A receive of the client failed.
+    Failed,
 }
 
 /// What happened, and when.

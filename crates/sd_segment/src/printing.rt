@@ -5,7 +5,7 @@ ghost use Rattle.sd_segment.specs.Kept.{sent_entries, entries_of_kept, entries_k
 
 use crate::flown::{Flown, Kept, What};
 use sd_outside::{ByteList, NoMemory};
-use sd_script::{write_got, write_sent, write_served};
+use sd_script::{write_failed, write_got, write_sent, write_served};
 use std::alloc::Global;
 
 /// So many packets from this id on.
@@ -46,6 +46,7 @@ fn write_kept(
 {
     match kept.what {
         What::Sent { id } => write_all_sent(alloc, kept.tick, id, stretch(flight, id, 1), text),
+        What::Strayed { id } => write_all_sent(alloc, kept.tick, id, stretch(flight, id, 1), text),
         What::Served { id, first, count } => {
             write_served(alloc, kept.tick, id as u64, text)?;
             write_all_sent(alloc, kept.tick, first, stretch(flight, first, count), text)
@@ -55,6 +56,7 @@ fn write_kept(
         }
         What::Ended { .. } => Ok(()),
         What::Got { id } => write_got(alloc, kept.tick, id as u64, text),
+        What::Failed => write_failed(alloc, kept.tick, text),
     }
 }
 

@@ -1,22 +1,31 @@
 //! The network between the client and the server: what it holds, and what always holds of it.
-ghost use Rattle.std.specs.Prelude.{◌≡◌, ◌⊎◌, ◌≤◌, [], IfOk, IsTrue, IsFalse};
-ghost use Rattle.sd_config.specs.Events.{fates_of, IsEvents};
-ghost use Rattle.sd_link.specs.Lawful.{IsLawful, IsFrontOf};
+ghost use Rattle.std.specs.Prelude.{◌≡◌, ◌⊎◌, ◌≤◌, [], Some, IfOk, IfErr, IsTrue, IsFalse};
+ghost use Rattle.std.specs.Option.{option_and_then};
+ghost use Rattle.sd_config.specs.Events.{IsEvents};
+ghost use Rattle.sd_config.specs.Plan.{plan_of};
+ghost use Rattle.sd_services.specs.Part.{swap_files};
+ghost use Rattle.sd_stable_disk.specs.Image.{held};
+ghost use Rattle.sd_link.specs.Lawful.{IsOrderly, FailsAsPlanned, IsFrontOf};
 ghost use Rattle.sd_link.specs.Link.{last_tick, IsReached, NothingWaits, IsAtRest};
 ghost use Rattle.sd_link.specs.Steps.{world_of, whole_record};
 ghost use Rattle.sd_link.specs.Printing.{record_text};
 ghost use Rattle.sd_config.specs.Config.{IsConfig};
+ghost use Rattle.sd_server.specs.declared.errors.ServerError.TheVariants.{NoMemory as NoRoom};
+ghost use Rattle.sd_segment.specs.declared.errors.SegmentError.TheVariants as refused;
 ghost use Rattle.sd_segment.specs.Segment.{history_of, text_drained, Rests};
 
 mod link;
 mod steps;
 mod waiting;
 
+use crate::calm::CalmServer;
+use crate::errors::SegmentError;
 use crate::flown::{Flown, Kept};
 use crate::queue::Queue;
+use crate::strays::EventBook;
 use sd_config::{Config, Events};
-use sd_outside::NoMemory;
-use sd_server::Server;
+use sd_outside::{CalmDisk, Disk, NoMemory};
+use sd_server::ServerError;
 use std::alloc::Global;
 use std::marker::Model;
 
@@ -28,8 +37,8 @@ use std::marker::Model;
 #[derive(Drop)]
 pub struct Segment {
     alloc: Global,
-    server: Server,
-    events: Events,
+    server: CalmServer,
+    events: EventBook,
     /// Every packet that was sent, by its id.
     flight: Vec<Flown>,
     /// Everything that happened, in order.
@@ -59,11 +68,29 @@ impl Model for Segment {
     ghost invariant = { λ s. IsSound (view_of s) };
 }
 
+/// Why there is no segment.
+fn refusal_of(error: ServerError) -> SegmentError
+    ensures { error ≡ NoRoom → result ≡ refused.NoMemory }
+{
+    match error {
+        ServerError::NoMemory => SegmentError::NoMemory,
+        error => SegmentError::Server(error),
+    }
+}
+
 impl Segment {
-    /// A network at tick 0, in which nothing was sent. The book of the bootparams file is made here, and takes memory.
-    pub fn new(alloc: Global, config: Config, events: Events) -> Result<Segment, NoMemory>
+    /// A network at tick 0, in which nothing was sent, with its server over a disk that holds the files of the start: the swap
+    /// file's zeros, or no file where there is no swap line. Such a disk is never refused for what it holds.
+    pub fn new(
+        alloc: Global,
+        config: Config,
+        events: Events,
+        disk: CalmDisk,
+    ) -> Result<Segment, SegmentError>
         requires config { IsConfig config }
         requires events { IsEvents config events }
+        requires holds { option_and_then held (⟦<CalmDisk as Disk>⟧.seen disk) ≡ Some (swap_files config.swap) }
+        ensures refused { IfErr result (λ error. error ≡ refused.NoMemory) }
         ensures told { IfOk result (λ segment. history_of segment ≡ record { config = config; events = events; steps = [] }) }
         ensures drained { IfOk result (λ segment. text_drained segment ≡ []) }
         ensures clock { IfOk result (λ segment. segment.tick ≡ 0) }
@@ -71,7 +98,14 @@ impl Segment {
         ensures handed { IfOk result (λ segment. segment.handed ≡ 0) }
         ensures whole { IfOk result (λ segment. IsFalse segment.broken) }
     {
-        let server = Server::new(alloc, config)?;
+        let server = match CalmServer::open(alloc, config, disk) {
+            Ok(server) => server,
+            Err(error) => return Err(refusal_of(error)),
+        };
+        let events = match EventBook::over(alloc, events) {
+            Ok(book) => book,
+            Err(NoMemory) => return Err(SegmentError::NoMemory),
+        };
         Ok(Segment {
             alloc,
             server,
@@ -90,7 +124,9 @@ impl Segment {
 
     /// What holds of every segment, whatever calls were made: it does nothing.
     pub fn facts(&self)
-        ensures lawful { let h = history_of self.now in IsLawful h.config (fates_of h.events) h.steps }
+        ensures orderly { let h = history_of self.now in IsOrderly h.config (plan_of h.events) h.steps }
+        // A receive fails where it would need a tick past the last one, and nowhere else.
+        ensures receives { (let h = history_of self.now in FailsAsPlanned h.config (plan_of h.events) h.steps) ⊎ (self.now.tick ≡ last_tick) }
         ensures world { IsReached (history_of self.now) }
         ensures rests { Rests self.now → IsAtRest (history_of self.now) }
         ensures clock { (world_of (history_of self.now)).tick ≡ self.now.tick }
@@ -120,6 +156,6 @@ impl Segment {
         ensures whole { IsTrue self.now.broken → IsFalse result }
         ensures bounded { IsReached (history_of self.now) }
     {
-        !self.broken && self.to_server.next().is_none() && self.server.next_due(self.tick).is_none()
+        !self.broken && self.is_at_rest()
     }
 }

@@ -2,9 +2,10 @@
 
 mod calls;
 mod schedules;
+mod strangers;
 mod transfers;
 
-use crate::Segment;
+use crate::{Segment, new_disk};
 use calls::{CALLS, LINES};
 use schedules::SCHEDULES;
 use sd_link::{Link, LinkError};
@@ -12,6 +13,7 @@ use sd_outside::{ByteList, NoMemory};
 use sd_script::{read_packet_line, read_script};
 use std::alloc::Global;
 use std::test::Fail;
+use strangers::STRANGERS;
 use transfers::TRANSFERS;
 
 const HEAD: &[u8] =
@@ -88,18 +90,29 @@ fn text_of(alloc: Global, life: &[u8], events: &[u8]) -> Result<ByteList, NoMemo
     Ok(text)
 }
 
-/// The record after these acts, drained after each. `None` where something was refused.
-fn record_of(alloc: Global, life: &[u8], events: &[u8], acts: &[u8]) -> Option<ByteList> {
-    let text = text_of(alloc, life, events).ok()?;
-    let script = read_script(alloc, text.as_slice()).ok()?;
-    let mut segment = Segment::new(alloc, script.config, script.events).ok()?;
+/// The network of a script.
+fn network(alloc: Global, text: &[u8]) -> Option<Segment> {
+    let script = read_script(alloc, text).ok()?;
+    let disk = new_disk(alloc, &script.config.swap).ok()?;
+    Segment::new(alloc, script.config, script.events, disk).ok()
+}
+
+/// What these acts add to the record, drained after each. `None` where something was refused.
+fn acted(alloc: Global, segment: &mut Segment, acts: &[u8]) -> Option<ByteList> {
     let mut record = ByteList::empty(alloc);
     for act in acts.split(|byte| *byte == b' ') {
-        perform(alloc, &mut segment, act).ok()?;
+        perform(alloc, segment, act).ok()?;
         segment.drain(&mut record).ok()?;
     }
     segment.facts();
     Some(record)
+}
+
+/// The record after these acts.
+fn record_of(alloc: Global, life: &[u8], events: &[u8], acts: &[u8]) -> Option<ByteList> {
+    let text = text_of(alloc, life, events).ok()?;
+    let mut segment = network(alloc, text.as_slice())?;
+    acted(alloc, &mut segment, acts)
 }
 
 /// A text without the abbreviations of the tables.
@@ -135,6 +148,18 @@ fn follows_schedules(rt: HostRuntime) -> Result<(), Fail> {
     Ok(())
 }
 
+#[test]
+fn follows_strangers(rt: HostRuntime) -> Result<(), Fail> {
+    for (place, (life, events, acts, record)) in STRANGERS.iter().enumerate() {
+        let want = whole(rt.alloc(), record)?;
+        match record_of(rt.alloc(), life, events, acts) {
+            Some(got) => assert_eq!(rt; got.as_slice(), want.as_slice(), "row {place}"),
+            None => assert!(rt; false, "refused: row {place}"),
+        }
+    }
+    Ok(())
+}
+
 /// Receives, or sends a packet.
 fn take_part(alloc: Global, segment: &mut Segment, act: &[u8]) -> Result<(), LinkError> {
     match act.split_first() {
@@ -147,17 +172,21 @@ fn take_part(alloc: Global, segment: &mut Segment, act: &[u8]) -> Result<(), Lin
     }
 }
 
-/// The record after these acts. `None` where something was refused.
-fn transfer_of(alloc: Global, events: &[u8], acts: &[u8]) -> Option<ByteList> {
-    let text = text_of(alloc, b"10", events).ok()?;
-    let script = read_script(alloc, text.as_slice()).ok()?;
-    let mut segment = Segment::new(alloc, script.config, script.events).ok()?;
+/// What these acts add to the record. `None` where something was refused.
+fn transferred(alloc: Global, segment: &mut Segment, acts: &[u8]) -> Option<ByteList> {
     let mut record = ByteList::empty(alloc);
     for act in acts.split(|byte| *byte == b',') {
-        take_part(alloc, &mut segment, act).ok()?;
+        take_part(alloc, segment, act).ok()?;
     }
     segment.drain(&mut record).ok()?;
     Some(record)
+}
+
+/// The record after these acts.
+fn transfer_of(alloc: Global, events: &[u8], acts: &[u8]) -> Option<ByteList> {
+    let text = text_of(alloc, b"10", events).ok()?;
+    let mut segment = network(alloc, text.as_slice())?;
+    transferred(alloc, &mut segment, acts)
 }
 
 #[test]
@@ -172,17 +201,21 @@ fn follows_transfers(rt: HostRuntime) -> Result<(), Fail> {
     Ok(())
 }
 
-/// Sends a datagram, and the record then.
-fn call_of(alloc: Global, address: &[u8], port: &[u8], body: &[u8]) -> Option<ByteList> {
-    let text = text_of(alloc, b"10", LINES).ok()?;
-    let script = read_script(alloc, text.as_slice()).ok()?;
-    let mut segment = Segment::new(alloc, script.config, script.events).ok()?;
-    let line = datagram(alloc, b"192.168.1.2", b"1021", address, port, body).ok()?;
-    send(alloc, &mut segment, line.as_slice()).ok()?;
-    receive(&mut segment, 5, 100).ok()?;
+/// Sends a datagram, and what is added to the record then.
+fn sent(alloc: Global, segment: &mut Segment, line: &[u8]) -> Option<ByteList> {
+    send(alloc, segment, line).ok()?;
+    receive(segment, 5, 100).ok()?;
     let mut record = ByteList::empty(alloc);
     segment.drain(&mut record).ok()?;
     Some(record)
+}
+
+/// The record of a datagram of the client.
+fn call_of(alloc: Global, address: &[u8], port: &[u8], body: &[u8]) -> Option<ByteList> {
+    let text = text_of(alloc, b"10", LINES).ok()?;
+    let line = datagram(alloc, b"192.168.1.2", b"1021", address, port, body).ok()?;
+    let mut segment = network(alloc, text.as_slice())?;
+    sent(alloc, &mut segment, line.as_slice())
 }
 
 fn datagram(

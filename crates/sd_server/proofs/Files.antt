@@ -7,7 +7,7 @@ use Rattle.std.specs.Str.{bytes_eq}
 use Rattle.sd_config.specs.declared.config.BootFile.{BootFile}
 use Rattle.sd_config.specs.declared.config.Config.{Config}
 use Rattle.sd_config.specs.Program.{boot_file}
-use Rattle.sd_server.specs.Server.{name_at, bytes_at, name_in, bytes_in}
+use Rattle.sd_server.specs.Sessions.{name_at, bytes_at, name_in, bytes_in}
 use Rattle.sd_server.proofs.Found.{find_here}
 
 get-some : {A : Type 0} (xs : List A) (i : ℕ) (d : A) → i < length xs → slice_get xs i ≡ Some (get_or xs i d)

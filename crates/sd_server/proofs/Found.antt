@@ -9,6 +9,15 @@ find_here p [] n d lt is = absurd (omega arith)
 find_here p (x ∷ xs) zero d lt is = ap (λ (b : Bool). cond b (Some x) (find p xs)) is
 find_here p (x ∷ xs) (suc n) d lt is = find_here p xs n d (omega arith) is
 
+-- what holds of all holds of the one that is found
+pub found_holds : {A : Type 0} (P : A → Type 0) (p : A → Bool) (xs : List A) (x : A) → AllByRecursion P xs → find p xs ≡ Some x → P x
+found_holds P p [] x all is = absurd (cc)
+found_holds P p (y ∷ ys) x all is = of (p y) is (λ e. found_holds P p ys x all.1 e)
+  where
+    of : (b : Bool) → cond b (Some y) (find p ys) ≡ Some x → (find p ys ≡ Some x → P x) → P x
+    of true same more = let here : y ≡ x = cc in subst P here all.0
+    of false rest more = more rest
+
 -- the one that is found passes
 pub found_passes : {A : Type 0} (p : A → Bool) (xs : List A) (x : A) → find p xs ≡ Some x → p x ≡ true
 found_passes p [] x is = absurd (cc)

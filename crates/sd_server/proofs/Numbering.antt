@@ -6,7 +6,7 @@ use Rattle.sd_config.specs.declared.config.Config.{Config}
 use Rattle.sd_services.specs.Part.{Session}
 use Rattle.sd_services.specs.Sessions.{with_session, without_session}
 use Rattle.sd_server.specs.declared.sessions.Sending.{Sending}
-use Rattle.sd_server.specs.Server.{session_of, IsSending, IsServer, Ascends}
+use Rattle.sd_server.specs.Sessions.{session_of, IsSending, AreSessions, Ascends}
 
 -- the session with this number becomes this
 abbrev pub put_over : Sending → List Sending → List Sending
@@ -23,7 +23,7 @@ all-drop P zero xs all = all
 all-drop P (suc n) [] all = tt
 all-drop P (suc n) (x ∷ xs) all = all-drop P n xs all.1
 
-all-filter : {A : Type 0} (P : A → Type 0) (p : A → Bool) (xs : List A) → AllByRecursion P xs → AllByRecursion P (filter p xs)
+pub all-filter : {A : Type 0} (P : A → Type 0) (p : A → Bool) (xs : List A) → AllByRecursion P xs → AllByRecursion P (filter p xs)
 all-filter P p [] all = tt
 all-filter P p (x ∷ xs) all = of (p x) (all-filter P p xs all.1)
   where
@@ -85,25 +85,22 @@ ascends-push made new (x ∷ xs) is a = (omega (arith, a.0), all-push (λ t. x.n
 
 -- ---- what holds of a server
 
-pub sound-put : (c : Config) (new : Sending) (xs : List Sending) (made : ℕ) → IsServer c xs made → IsSending c new → IsServer c (put_over new xs) made
+pub sound-put : (c : Config) (new : Sending) (xs : List Sending) (made : ℕ) → AreSessions c xs made → IsSending c new → AreSessions c (put_over new xs) made
 sound-put c new xs made i one = record {
-  config = i.config;
   each = all-put (IsSending c) new xs one i.each;
   numbers = ascends-put made new xs i.numbers;
   few = omega (arith, i.few, length-map xs (λ s. if s.number == new.number then new else s));
 }
 
-pub sound-end : (c : Config) (number : ℕ) (xs : List Sending) (made : ℕ) → IsServer c xs made → IsServer c (filter (λ s. not (s.number == number)) xs) made
+pub sound-end : (c : Config) (number : ℕ) (xs : List Sending) (made : ℕ) → AreSessions c xs made → AreSessions c (filter (λ s. not (s.number == number)) xs) made
 sound-end c number xs made i = record {
-  config = i.config;
   each = all-filter (IsSending c) (λ s. not (s.number == number)) xs i.each;
   numbers = ascends-filter made (λ s. not (s.number == number)) xs i.numbers;
   few = omega (arith, i.few, length-filter (λ (s : Sending). not (s.number == number)) xs);
 }
 
-pub sound-begin : (c : Config) (new : Sending) (xs : List Sending) (made : ℕ) → IsServer c xs made → new.number ≡ made → IsSending c new → IsServer c (drop (length xs - 15) xs ++ new ∷ []) (made + 1)
+pub sound-begin : (c : Config) (new : Sending) (xs : List Sending) (made : ℕ) → AreSessions c xs made → new.number ≡ made → IsSending c new → AreSessions c (drop (length xs - 15) xs ++ new ∷ []) (made + 1)
 sound-begin c new xs made i is one = record {
-  config = i.config;
   each = all-push (IsSending c) (drop (length xs - 15) xs) new (all-drop (IsSending c) (length xs - 15) xs i.each) one;
   numbers = ascends-push made new (drop (length xs - 15) xs) is (ascends-drop made (length xs - 15) xs i.numbers);
   few = omega (arith, i.few, length-append (drop (length xs - 15) xs) (new ∷ []), length-drop (length xs - 15) xs);

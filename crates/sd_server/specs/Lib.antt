@@ -1,2 +1,15 @@
-pub mod Server
+pub mod Ticks
+pub mod State
+pub mod Turns
+pub mod Standing
+pub mod Setups
+pub mod Coming
 pub mod Services
+pub mod Sessions
+pub mod Stepping
+pub mod Mounting
+pub mod Access
+pub mod NfsTurns
+pub mod Deciding
+pub mod Ticking
+pub mod Still

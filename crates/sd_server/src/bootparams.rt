@@ -1,34 +1,22 @@
 //! The server's bootparams: program 100026, version 1.
-ghost use Rattle.std.specs.Prelude.{◌≡◌, ◌≤◌, ◌<◌, ◌^◌, length, IfOk, IfSome};
+ghost use Rattle.std.specs.Prelude.{◌≡◌, ◌≤◌, ◌<◌, IfOk, IfSome};
 ghost use Rattle.std.specs.Option.{option_map};
 ghost use Rattle.sd_rpc_msg.specs.Layout.{OutcomeFits};
 ghost use Rattle.sd_bootparams.specs.Layout.{args_kind, ResultFits};
 ghost use Rattle.sd_bootparams.specs.Tables.{whoami_of, getfile_of};
 ghost use Rattle.sd_bootparams.specs.declared.message.BpResult.TheVariants as results;
 ghost use Rattle.sd_config.specs.Config.{IsConfig};
-ghost use Rattle.sd_services.specs.RpcCalls.{spelled, answered, accepted};
+ghost use Rattle.sd_services.specs.RpcCalls.{spelled, answered, accepted, reply_to};
 ghost use Rattle.sd_services.specs.RpcReply.{bp_args_in, bp_answer, bootparams};
-ghost use Rattle.sd_server.specs.Services.{IsKnown, bp_found};
+ghost use Rattle.sd_server.specs.Services.{bp_found};
 
-use crate::rpc::{Service, auth_null, refusal};
+use crate::coming::{Coming, arrive, auth_null, known, refusal, with_xid};
+use crate::service::Service;
 use crate::setup::Setup;
 use sd_bootparams::{Book, BpArgs, BpResult, read_bp_args, write_bp_result};
 use sd_outside::{ByteList, NoMemory};
-use sd_rpc_msg::{MsgError, Outcome};
+use sd_rpc_msg::{Outcome, Reply};
 use std::alloc::Global;
-
-/// What was read, or nothing where the bytes spell nothing.
-pub fn known<T: Drop>(read: Result<T, MsgError>) -> Result<Option<T>, NoMemory>
-    ensures { IfOk result (IsKnown read) }
-{
-    match read {
-        Ok(value) => Ok(Some(value)),
-        Err(MsgError::NoMemory) => Err(NoMemory),
-        Err(MsgError::Xdr(_)) => Ok(None),
-        Err(MsgError::RpcVersion { .. }) => Ok(None),
-        Err(MsgError::AuthLong { .. }) => Ok(None),
-    }
-}
 
 /// The arguments that the bytes spell.
 fn bp_args_in(alloc: Global, proc_no: u32, bytes: &[u8]) -> Result<Option<BpArgs>, NoMemory>
@@ -145,5 +133,20 @@ pub fn bp_accepted(
     match refusal(alloc, Service::Bootparams, prog, vers, proc_no) {
         Some(refused) => Ok(Some(refused)),
         None => Ok(bp_answered(alloc, setup, proc_no, args)?),
+    }
+}
+
+/// The reply to a datagram with this body.
+pub fn bp_reply(alloc: Global, setup: &Setup, body: &[u8]) -> Result<Option<Reply>, NoMemory>
+    ensures reply { IfOk result (λ r. r ≡ reply_to (bootparams setup.now) body.now) }
+    ensures fits { IfOk result (λ r. IfSome r (λ reply. OutcomeFits reply.outcome)) }
+{
+    match arrive(alloc, Service::Bootparams, body)? {
+        Coming::Nowhere => Ok(None),
+        Coming::Refused(reply) => Ok(Some(reply)),
+        Coming::Asks { xid, proc_no, args } => {
+            let outcome = bp_answered(alloc, setup, proc_no, args.as_slice())?;
+            Ok(with_xid(xid, outcome))
+        }
     }
 }

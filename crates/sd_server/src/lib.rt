@@ -1,18 +1,28 @@
-//! The boot server: RARP, TFTP sessions, the portmapper and bootparams.
+//! A boot server: RARP, TFTP, and the RPC programs portmapper, bootparams, MOUNT and NFS over files that survive a crash.
 //!
-//! A server is a configuration and a part of the world (`specs/Server.antt`). It knows no link: it is given a packet, and
-//! `Server::answer` says what it sends and how it changes, just as `sd_services` defines it; `Server::change` does it. The
-//! sessions whose block is due are asked for one by one (`Server::next_due`).
+//! It is given packets and ticks, and gives packets back. It knows no network: whoever has one hands on what comes and goes.
 #![tactic(auto)]
 
+mod access;
 mod bootparams;
+mod coming;
+mod desk;
+mod errors;
+mod mount;
+mod nfs;
 mod portmap;
+mod replies;
 mod reply;
-mod rpc;
 mod server;
+mod service;
 mod sessions;
 mod setup;
+mod still;
 mod tftp;
+mod ticking;
 
+pub use errors::ServerError;
+pub use replies::{PacketList, Replies};
 pub use server::Server;
-pub use sessions::{Answer, Change, Sending, sent_again};
+pub use still::Still;
+pub use ticking::{Due, DueList};

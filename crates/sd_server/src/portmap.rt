@@ -1,22 +1,21 @@
 //! The server's portmapper: program 100000, version 2 (RFC 1057, appendix A).
-ghost use Rattle.std.specs.Prelude.{◌≡◌, ◌≤◌, IfOk, IfSome};
-ghost use Rattle.std.specs.List.{find};
+ghost use Rattle.std.specs.Prelude.{◌≡◌, ◌≤◌, ◌++◌, IfOk, IfSome, OnOk};
 ghost use Rattle.std.specs.Option.{option_map};
 ghost use Rattle.sd_rpc_msg.specs.Layout.{OutcomeFits};
 ghost use Rattle.sd_portmap.specs.Layout.{args_kind, ResultFits};
-ghost use Rattle.sd_portmap.specs.Table.{is_triple, port_of};
 ghost use Rattle.sd_portmap.specs.declared.message.PmapResult.TheVariants as results;
 ghost use Rattle.sd_config.specs.Config.{IsConfig};
-ghost use Rattle.sd_services.specs.RpcCalls.{spelled, answered, accepted};
-ghost use Rattle.sd_services.specs.RpcReply.{pmap_args_in, pmap_answer, mappings, portmapper, bootparams, results_in, bootparams_port, over_udp};
+ghost use Rattle.sd_services.specs.RpcCalls.{spelled, answered, accepted, reply_to};
+ghost use Rattle.sd_services.specs.RpcReply.{pmap_args_in, pmap_answer, mappings, portmapper, bootparams, results_in, bootparams_port};
 ghost use Rattle.sd_server.specs.Services.{pmap_found};
 
-use crate::bootparams::{bp_accepted, known};
-use crate::rpc::{BOOTPARAMS_PORT, Service, auth_null, refusal};
+use crate::bootparams::bp_accepted;
+use crate::coming::{Coming, arrive, auth_null, known, with_xid};
+use crate::service::{BOOTPARAMS_PORT, Service};
 use crate::setup::Setup;
 use sd_outside::NoMemory;
 use sd_portmap::{Mapping, MappingList, PmapArgs, PmapResult, read_pmap_args, write_pmap_result};
-use sd_rpc_msg::Outcome;
+use sd_rpc_msg::{Outcome, Reply};
 use std::alloc::Global;
 
 /// The arguments that the bytes spell.
@@ -27,52 +26,22 @@ fn pmap_args_in(alloc: Global, proc_no: u32, bytes: &[u8]) -> Result<Option<Pmap
     known(read_pmap_args(alloc, proc_no, bytes))
 }
 
-/// A program that is served over UDP.
-fn over_udp(prog: u32, vers: u32, port: u32) -> Mapping
-    ensures { result ≡ over_udp prog vers port }
+fn push_mappings(list: &mut MappingList, more: &[Mapping]) -> Result<(), NoMemory>
+    ensures { OnOk result (list.new ≡ list.old ++ more.now) }
 {
-    Mapping {
-        prog,
-        vers,
-        prot: 17,
-        port,
+    for mapping in more {
+        list.push(*mapping)?;
     }
+    Ok(())
 }
 
-/// The portmapper, bootparams, MOUNT and NFS.
-fn mappings(alloc: Global) -> Result<MappingList, NoMemory>
+/// All mappings of the table.
+fn mappings(alloc: Global, setup: &Setup) -> Result<MappingList, NoMemory>
     ensures { IfOk result (λ list. list ≡ mappings) }
 {
     let mut list = MappingList::empty(alloc);
-    list.push(over_udp(100000, 2, 111))?;
-    list.push(over_udp(100026, 1, 1016))?;
-    list.push(over_udp(100005, 1, 1017))?;
-    list.push(over_udp(100003, 2, 2049))?;
+    push_mappings(&mut list, setup.table().dump())?;
     Ok(list)
-}
-
-/// The port of a program's version over UDP, or 0.
-fn udp_port(prog: u32, vers: u32) -> u32
-    ensures { result ≡ port_of mappings prog vers 17 }
-{
-    match (prog, vers) {
-        (100000, 2) => 111,
-        (100026, 1) => 1016,
-        (100005, 1) => 1017,
-        (100003, 2) => 2049,
-        _ => 0,
-    }
-}
-
-/// The port of a program's version over a protocol, or 0.
-fn port_of(wanted: &Mapping) -> u32
-    ensures { result ≡ port_of mappings wanted.now.prog wanted.now.vers wanted.now.prot }
-{
-    if wanted.prot == 17 {
-        udp_port(wanted.prog, wanted.vers)
-    } else {
-        0
-    }
 }
 
 /// PMAPPROC_CALLIT.
@@ -109,8 +78,10 @@ fn pmap_answer(
         PmapArgs::Null => Ok(Some(PmapResult::Void)),
         PmapArgs::Set(_) => Ok(Some(PmapResult::Flag(false))),
         PmapArgs::Unset(_) => Ok(Some(PmapResult::Flag(false))),
-        PmapArgs::Getport(wanted) => Ok(Some(PmapResult::Port(port_of(wanted)))),
-        PmapArgs::Dump => Ok(Some(PmapResult::Mappings(mappings(alloc)?))),
+        PmapArgs::Getport(wanted) => Ok(Some(PmapResult::Port(
+            setup.table().get(wanted.prog, wanted.vers, wanted.prot),
+        ))),
+        PmapArgs::Dump => Ok(Some(PmapResult::Mappings(mappings(alloc, setup)?))),
         PmapArgs::Callit {
             prog,
             vers,
@@ -171,20 +142,17 @@ fn pmap_answered(
     pmap_found(alloc, setup, found)
 }
 
-/// An accepted call.
-pub fn pmap_accepted(
-    alloc: Global,
-    setup: &Setup,
-    prog: u32,
-    vers: u32,
-    proc_no: u32,
-    args: &[u8],
-) -> Result<Option<Outcome>, NoMemory>
-    ensures outcome { IfOk result (λ o. o ≡ accepted (portmapper setup.now) prog vers proc_no args.now) }
-    ensures fits { IfOk result (λ o. IfSome o OutcomeFits) }
+/// The reply to a datagram with this body.
+pub fn pmap_reply(alloc: Global, setup: &Setup, body: &[u8]) -> Result<Option<Reply>, NoMemory>
+    ensures reply { IfOk result (λ r. r ≡ reply_to (portmapper setup.now) body.now) }
+    ensures fits { IfOk result (λ r. IfSome r (λ reply. OutcomeFits reply.outcome)) }
 {
-    match refusal(alloc, Service::Portmapper, prog, vers, proc_no) {
-        Some(refused) => Ok(Some(refused)),
-        None => Ok(pmap_answered(alloc, setup, proc_no, args)?),
+    match arrive(alloc, Service::Portmapper, body)? {
+        Coming::Nowhere => Ok(None),
+        Coming::Refused(reply) => Ok(Some(reply)),
+        Coming::Asks { xid, proc_no, args } => {
+            let outcome = pmap_answered(alloc, setup, proc_no, args.as_slice())?;
+            Ok(with_xid(xid, outcome))
+        }
     }
 }

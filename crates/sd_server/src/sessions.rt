@@ -1,45 +1,37 @@
-//! TFTP sessions, as a server keeps them.
-ghost use Rattle.std.specs.Prelude.{◌≡◌, ◌+◌, ◌-◌, ◌<◌, ◌≤◌, ◌==◌, [], ◌∷◌, ◌++◌, length, drop, map, filter, not, if◌then◌else◌, IfSome, OnOk, OnErr};
+//! TFTP sessions, as the server keeps them.
+ghost use Rattle.std.specs.Prelude.{◌≡◌, ◌-◌, ◌≤◌, ◌==◌, [], ◌∷◌, ◌++◌, length, drop, map, filter, not, if◌then◌else◌, IfSome, OnOk, OnErr};
 ghost use Rattle.std.specs.List.{find};
 ghost use Rattle.std.specs.Option.{option_map};
 ghost use Rattle.sd_config.specs.Program.{boot_file};
-ghost use Rattle.sd_services.specs.Sessions.{session_port, is_due, is_session_of};
-ghost use Rattle.sd_server.specs.Server.{session_of, name_at, bytes_at};
+ghost use Rattle.sd_services.specs.Sessions.{session_port, is_session_of};
+ghost use Rattle.sd_server.specs.Sessions.{session_of, name_at, bytes_at};
 
 use sd_config::Config;
-use sd_outside::{Addr, NoMemory, Packet};
+use sd_outside::{Addr, NoMemory};
+use sd_tftp::Sender;
 
 /// A session: the file at a place of the configuration's boot files is sent to a peer.
-#[derive(Clone, Copy, Debug, PartialEq, Eq)]
+#[derive(Debug, Drop)]
 pub struct Sending {
     /// Sessions are numbered from 0.
     pub number: u64,
     pub file: usize,
     pub peer: Addr,
-    /// The present block, with the tick of its last send and the number of its sends.
-    pub block: u16,
-    pub sent: u64,
-    pub sends: u32,
+    pub sender: Sender,
 }
 
-/// What becomes of a server's sessions.
-#[derive(Clone, Copy, Debug, PartialEq, Eq)]
-pub enum Change {
-    /// Nothing.
-    Stays,
-    /// This one begins.
-    Begins(Sending),
-    /// The one with this number is now this.
-    Moves(Sending),
-    /// The one with this number ends.
-    Ends(u64),
-}
-
-/// What a server does with a packet: the packet that it sends, and what becomes of its sessions.
-#[derive(Drop)]
-pub struct Answer {
-    pub out: Option<Packet>,
-    pub change: Change,
+impl Sending {
+    /// A further session that is the same.
+    pub fn copy(&self) -> Sending
+        ensures { result ≡ self.now }
+    {
+        Sending {
+            number: self.number,
+            file: self.file,
+            peer: self.peer,
+            sender: self.sender.copy(),
+        }
+    }
 }
 
 /// The port of a session.
@@ -73,40 +65,6 @@ pub fn bytes_at(config: &Config, place: usize) -> &[u8]
     }
 }
 
-/// The present block was sent once more.
-pub fn sent_again(session: Sending, tick: u64) -> Sending
-    requires { session.sends < 4294967295 }
-    ensures { result ≡ record session { sent = tick; sends = session.sends + 1 } }
-{
-    Sending {
-        number: session.number,
-        file: session.file,
-        peer: session.peer,
-        block: session.block,
-        sent: tick,
-        sends: session.sends + 1,
-    }
-}
-
-/// Whether the present block is to be sent again.
-fn is_due(config: &Config, session: &Sending, tick: u64) -> bool
-    ensures { result ≡ is_due config.now tick (session_of config.now session.now) }
-{
-    session.sent <= tick && config.wait <= tick - session.sent
-}
-
-/// The first session whose block is due.
-pub fn first_due(config: &Config, sessions: &[Sending], tick: u64) -> Option<Sending>
-    ensures { result ≡ find (λ s. is_due config.now tick (session_of config.now s)) sessions.now }
-{
-    for session in sessions {
-        if is_due(config, session, tick) {
-            return Some(*session);
-        }
-    }
-    None
-}
-
 fn is_at(config: &Config, session: &Sending, port: u16, peer: Addr) -> bool
     ensures { result ≡ is_session_of port peer (session_of config.now session.now) }
 {
@@ -121,26 +79,30 @@ pub fn session_at(config: &Config, sessions: &[Sending], port: u16, peer: Addr) 
 {
     for session in sessions {
         if is_at(config, session, port, peer) {
-            return Some(*session);
+            return Some(session.copy());
         }
     }
     None
 }
 
 /// What becomes of a session where the one with this number becomes this.
-fn later(old: Sending, new: Sending) -> Sending
-    ensures { result ≡ (if old.number == new.number then new else old) }
+fn later(old: &Sending, new: &Sending) -> Sending
+    ensures { result ≡ (if old.now.number == new.now.number then new.now else old.now) }
 {
-    if old.number == new.number { new } else { old }
+    if old.number == new.number {
+        new.copy()
+    } else {
+        old.copy()
+    }
 }
 
 /// The session with this number becomes this.
-pub fn put_session(sessions: &mut Vec<Sending>, new: Sending)
-    ensures { sessions.new.items ≡ map (λ s. if s.number == new.number then new else s) sessions.old.items }
+pub fn put_session(sessions: &mut Vec<Sending>, new: &Sending)
+    ensures { sessions.new.items ≡ map (λ s. if s.number == new.now.number then new.now else s) sessions.old.items }
 {
     let list = sessions.as_mut_slice();
     for place in 0..list.len() {
-        list[place] = later(list[place], new);
+        list[place] = later(&list[place], new);
     }
 }
 

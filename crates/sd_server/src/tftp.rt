@@ -1,22 +1,22 @@
 //! What the server does with TFTP datagrams (RFC 1350).
-ghost use Rattle.std.specs.Prelude.{◌≡◌, ◌≤◌, IfOk, IfSome, Ok, Some, None, slice_get};
-ghost use Rattle.std.specs.Str.{str_eq_ignore_ascii_case};
+ghost use Rattle.std.specs.Prelude.{◌≡◌, ◌==◌, ◌||◌, if◌then◌else◌, true, IfOk, Ok, map};
 ghost use Rattle.std.specs.List.{AllByRecursion};
-ghost use Rattle.sd_tftp.specs.Grammar.{HasSpelling};
+ghost use Rattle.sd_tftp.specs.Grammar.{HasSpelling, tftp_port};
 ghost use Rattle.sd_config.specs.Config.{IsConfig};
-ghost use Rattle.sd_services.specs.Sessions.{tftp_packet, tftp_error, block_packet, is_octet, asked_for, requested, acknowledged, heard, not_known, transferred, tftp_reply};
+ghost use Rattle.sd_services.specs.Sessions.{tftp_packet, tftp_error, block_packet, is_octet, file_of, asked_for, requested, heard, not_known, transferred, tftp_reply, is_session_port};
 ghost use Rattle.sd_config.specs.Program.{boot_file};
 ghost use Rattle.sd_services.specs.Part.{ServerPart};
-ghost use Rattle.sd_server.specs.Server.{session_of, part_of, packets_in, Answers, IsSending, IsServer};
+ghost use Rattle.sd_server.specs.Sessions.{session_of, bytes_at, Answers, IsSending};
+ghost use Rattle.sd_server.specs.Stepping.{MayStep, after_step, begins_with, begun_with};
 
-use crate::sessions::{Answer, Change, Sending, bytes_at, place_of_file, session_at, session_port};
+use crate::replies::{Answer, Change, quiet};
+use crate::sessions::{Sending, bytes_at, place_of_file, session_at, session_port};
 use sd_config::Config;
 use sd_outside::{Addr, ByteList, NoMemory, Packet};
-use sd_tftp::{TftpError, TftpPacket, block_of, read_packet, write_packet};
+use sd_tftp::{
+    Sender, SenderStep, TFTP_PORT, TftpError, TftpPacket, block_of, read_packet, write_packet,
+};
 use std::alloc::Global;
-
-/// The port for requests.
-const TFTP_PORT: u16 = 69;
 
 fn packet_from(
     alloc: Global,
@@ -60,20 +60,18 @@ fn refusal(
     })
 }
 
-/// Nothing is sent, and this becomes of the sessions.
-pub fn quiet(change: Change) -> Answer
-    ensures { result ≡ record { out = None; change = change } }
-{
-    Answer { out: None, change }
-}
-
-/// The present block of a session, as it is sent to its peer.
-pub fn block_packet(alloc: Global, config: &Config, session: &Sending) -> Result<Packet, NoMemory>
-    requires { IsSending config.now session.now }
+/// The present block of a session, which has this number, as it is sent to its peer.
+pub fn block_packet(
+    alloc: Global,
+    config: &Config,
+    session: &Sending,
+    number: u16,
+) -> Result<Packet, NoMemory>
+    requires sending { IsSending config.now session.now }
+    requires present { number ≡ session.now.sender.block }
     ensures { IfOk result (λ out. out ≡ block_packet config.now (session_of config.now session.now)) }
 {
     let file = bytes_at(config, session.file);
-    let number = session.block;
     let bytes = ByteList::from_slice(alloc, block_of(file, number))?;
     let port = session_port(session.number);
     packet_from(
@@ -85,34 +83,46 @@ pub fn block_packet(alloc: Global, config: &Config, session: &Sending) -> Result
     )
 }
 
+/// A session begins that sends the boot file at a place.
+fn begins(
+    alloc: Global,
+    config: &Config,
+    made: u64,
+    tick: u64,
+    from: Addr,
+    file: usize,
+) -> Result<Answer, NoMemory>
+    requires { file_of config.now (begins_with config.now made tick from file) ≡ bytes_at config.now file }
+    ensures { IfOk result (λ a. (part : ServerPart) → part.made ≡ made → Answers config.now part a (begun_with config.now part (begins_with config.now made tick from file))) }
+{
+    let session = Sending {
+        number: made,
+        file,
+        peer: from,
+        sender: Sender::new(from, tick),
+    };
+    let packet = block_packet(alloc, config, &session, 1)?;
+    Ok(Answer {
+        out: Some(packet),
+        change: Change::Begins(session),
+    })
+}
+
 /// A request for a file.
 fn asked_for(
     alloc: Global,
     config: &Config,
-    sessions: &[Sending],
     made: u64,
     tick: u64,
     from: Addr,
     name: &[u8],
 ) -> Result<Answer, NoMemory>
-    ensures { IfOk result (λ a. Answers config.now (part_of config.now sessions.now made) a (asked_for config.now tick (part_of config.now sessions.now made) from name.now (boot_file config.now name.now))) }
+    ensures { IfOk result (λ a. (part : ServerPart) → part.made ≡ made → Answers config.now part a (asked_for config.now tick part from name.now (boot_file config.now name.now))) }
 {
-    let Some(file) = place_of_file(config, name) else {
-        return refusal(alloc, config, TFTP_PORT, from, 1);
-    };
-    let session = Sending {
-        number: made,
-        file,
-        peer: from,
-        block: 1,
-        sent: tick,
-        sends: 1,
-    };
-    let packet = block_packet(alloc, config, &session)?;
-    Ok(Answer {
-        out: Some(packet),
-        change: Change::Begins(session),
-    })
+    match place_of_file(config, name) {
+        None => Ok(refusal(alloc, config, TFTP_PORT, from, 1)?),
+        Some(file) => Ok(begins(alloc, config, made, tick, from, file)?),
+    }
 }
 
 fn is_octet(mode: &[u8]) -> bool
@@ -125,55 +135,57 @@ fn is_octet(mode: &[u8]) -> bool
 fn requested(
     alloc: Global,
     config: &Config,
-    sessions: &[Sending],
     made: u64,
     tick: u64,
     from: Addr,
     packet: &TftpPacket,
 ) -> Result<Answer, NoMemory>
-    ensures { IfOk result (λ a. Answers config.now (part_of config.now sessions.now made) a (requested config.now tick (part_of config.now sessions.now made) from (Ok packet.now))) }
+    ensures { IfOk result (λ a. (part : ServerPart) → part.made ≡ made → Answers config.now part a (requested config.now tick part from (Ok packet.now))) }
 {
     match packet {
         TftpPacket::Rrq { name, mode } => {
-            if !is_octet(mode.as_slice()) {
-                return refusal(alloc, config, TFTP_PORT, from, 4);
+            if is_octet(mode.as_slice()) {
+                return Ok(asked_for(alloc, config, made, tick, from, name.as_slice())?);
             }
-            asked_for(alloc, config, sessions, made, tick, from, name.as_slice())
+            Ok(refusal(alloc, config, TFTP_PORT, from, 4)?)
         }
-        TftpPacket::Wrq { .. } => refusal(alloc, config, TFTP_PORT, from, 2),
+        TftpPacket::Wrq { .. } => Ok(refusal(alloc, config, TFTP_PORT, from, 2)?),
         TftpPacket::Block { .. } => Ok(quiet(Change::Stays)),
         TftpPacket::Ack { .. } => Ok(quiet(Change::Stays)),
         TftpPacket::Error { .. } => Ok(quiet(Change::Stays)),
     }
 }
 
-/// The peer acknowledged the present block.
-fn acknowledged(
+/// What the sender of a session answered to a packet of its peer, and the sender then.
+fn stepped(
     alloc: Global,
     config: &Config,
-    tick: u64,
-    session: Sending,
+    session: &Sending,
+    says: SenderStep,
+    sender: Sender,
 ) -> Result<Answer, NoMemory>
-    requires config { IsConfig config.now }
-    requires sending { IsSending config.now session }
-    ensures { IfOk result (λ a. (part : ServerPart) → Answers config.now part a (acknowledged config.now tick part (session_of config.now session))) }
+    requires sending { IsSending config.now session.now }
+    requires next { MayStep session.now says sender }
+    ensures { IfOk result (λ a. (part : ServerPart) → Answers config.now part a (after_step config.now part session.now says sender)) }
 {
-    if block_of(bytes_at(config, session.file), session.block).len() < 512 {
-        return Ok(quiet(Change::Ends(session.number)));
+    match says {
+        SenderStep::Ignored => Ok(quiet(Change::Stays)),
+        SenderStep::Stranger { .. } => Ok(quiet(Change::Stays)),
+        SenderStep::Done => Ok(quiet(Change::Ends(session.number))),
+        SenderStep::Next { number } => {
+            let next = Sending {
+                number: session.number,
+                file: session.file,
+                peer: session.peer,
+                sender,
+            };
+            let packet = block_packet(alloc, config, &next, number)?;
+            Ok(Answer {
+                out: Some(packet),
+                change: Change::Moves(next),
+            })
+        }
     }
-    let next = Sending {
-        number: session.number,
-        file: session.file,
-        peer: session.peer,
-        block: session.block + 1,
-        sent: tick,
-        sends: 1,
-    };
-    let packet = block_packet(alloc, config, &next)?;
-    Ok(Answer {
-        out: Some(packet),
-        change: Change::Moves(next),
-    })
 }
 
 /// A packet from a session's peer.
@@ -181,25 +193,17 @@ fn heard(
     alloc: Global,
     config: &Config,
     tick: u64,
-    session: Sending,
+    session: &Sending,
     packet: &TftpPacket,
 ) -> Result<Answer, NoMemory>
     requires config { IsConfig config.now }
-    requires sending { IsSending config.now session }
-    ensures { IfOk result (λ a. (part : ServerPart) → Answers config.now part a (heard config.now tick part (session_of config.now session) packet.now)) }
+    requires sending { IsSending config.now session.now }
+    ensures { IfOk result (λ a. (part : ServerPart) → Answers config.now part a (heard config.now tick part (session_of config.now session.now) packet.now)) }
 {
-    match packet {
-        TftpPacket::Ack { number } => {
-            if *number == session.block {
-                return Ok(acknowledged(alloc, config, tick, session)?);
-            }
-            Ok(quiet(Change::Stays))
-        }
-        TftpPacket::Error { .. } => Ok(quiet(Change::Ends(session.number))),
-        TftpPacket::Block { .. } => Ok(quiet(Change::Stays)),
-        TftpPacket::Rrq { .. } => Ok(quiet(Change::Stays)),
-        TftpPacket::Wrq { .. } => Ok(quiet(Change::Stays)),
-    }
+    let mut sender = session.sender.copy();
+    let file = bytes_at(config, session.file);
+    let says = sender.step(tick, session.peer, packet, file);
+    stepped(alloc, config, session, says, sender)
 }
 
 /// A packet to a session's port from anyone else.
@@ -226,22 +230,50 @@ fn transferred(
     alloc: Global,
     config: &Config,
     sessions: &[Sending],
+    tick: u64,
+    from: Addr,
+    port: u16,
+    packet: &TftpPacket,
+) -> Result<Answer, NoMemory>
+    requires config { IsConfig config.now }
+    requires each { AllByRecursion (IsSending config.now) sessions.now }
+    ensures { IfOk result (λ a. (part : ServerPart) → part.sessions ≡ map (session_of config.now) sessions.now → Answers config.now part a (transferred config.now tick part port from (Ok packet.now))) }
+{
+    match session_at(config, sessions, port, from) {
+        None => Ok(not_known(alloc, config, port, from, packet)?),
+        Some(session) => Ok(heard(alloc, config, tick, &session, packet)?),
+    }
+}
+
+/// Whether a port is one of TFTP.
+pub fn is_tftp_port(port: u16) -> bool
+    ensures { result ≡ ((port == tftp_port) || is_session_port port) }
+{
+    port == TFTP_PORT || (4096..8192).contains(&port)
+}
+
+/// A packet to a port of TFTP.
+fn by_port(
+    alloc: Global,
+    config: &Config,
+    sessions: &[Sending],
     made: u64,
     tick: u64,
     from: Addr,
     port: u16,
     packet: &TftpPacket,
 ) -> Result<Answer, NoMemory>
-    requires { IsServer config.now sessions.now made }
-    ensures { IfOk result (λ a. Answers config.now (part_of config.now sessions.now made) a (transferred config.now tick (part_of config.now sessions.now made) port from (Ok packet.now))) }
+    requires config { IsConfig config.now }
+    requires each { AllByRecursion (IsSending config.now) sessions.now }
+    ensures { IfOk result (λ a. (part : ServerPart) → part.sessions ≡ map (session_of config.now) sessions.now → part.made ≡ made → Answers config.now part a (if port == tftp_port then requested config.now tick part from (Ok packet.now) else transferred config.now tick part port from (Ok packet.now))) }
 {
-    match session_at(config, sessions, port, from) {
-        None => Ok(not_known(alloc, config, port, from, packet)?),
-        Some(session) => Ok(heard(alloc, config, tick, session, packet)?),
+    if port == TFTP_PORT {
+        return Ok(requested(alloc, config, made, tick, from, packet)?);
     }
+    Ok(transferred(alloc, config, sessions, tick, from, port, packet)?)
 }
 
-/// A datagram to this port of the server.
+/// A datagram to a port of TFTP.
 pub fn tftp_reply(
     alloc: Global,
     config: &Config,
@@ -252,19 +284,16 @@ pub fn tftp_reply(
     port: u16,
     body: &[u8],
 ) -> Result<Answer, NoMemory>
-    requires { IsServer config.now sessions.now made }
-    ensures { IfOk result (λ a. Answers config.now (part_of config.now sessions.now made) a (tftp_reply config.now tick (part_of config.now sessions.now made) from port body.now)) }
+    requires config { IsConfig config.now }
+    requires each { AllByRecursion (IsSending config.now) sessions.now }
+    requires port { ((port == tftp_port) || is_session_port port) ≡ true }
+    ensures { IfOk result (λ a. (part : ServerPart) → part.sessions ≡ map (session_of config.now) sessions.now → part.made ≡ made → Answers config.now part a (tftp_reply config.now tick part from port body.now)) }
 {
-    if port != TFTP_PORT && !(4096..8192).contains(&port) {
-        return Ok(quiet(Change::Stays));
+    match read_packet(alloc, body) {
+        Ok(packet) => Ok(by_port(alloc, config, sessions, made, tick, from, port, &packet)?),
+        Err(why) => match why {
+            TftpError::NoMemory => Err(NoMemory),
+            _ => Ok(quiet(Change::Stays)),
+        },
     }
-    let packet = match read_packet(alloc, body) {
-        Ok(packet) => packet,
-        Err(TftpError::NoMemory) => return Err(NoMemory),
-        Err(_) => return Ok(quiet(Change::Stays)),
-    };
-    if port == TFTP_PORT {
-        return requested(alloc, config, sessions, made, tick, from, &packet);
-    }
-    transferred(alloc, config, sessions, made, tick, from, port, &packet)
 }

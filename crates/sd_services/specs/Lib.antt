@@ -1,9 +1,13 @@
 pub mod Part
 pub mod Sessions
 pub mod RpcCalls
-pub mod RpcReply
-pub mod Reply
 pub mod Files
 pub mod Names
 pub mod Decisions
 pub mod NfsReply
+pub mod MountReply
+pub mod NfsCalls
+pub mod Spelling
+pub mod RpcReply
+pub mod Reply
+pub mod Failing

@@ -57,7 +57,3 @@ nfs_change files from others = None
 -- What a call from an address is answered.
 abbrev pub nfs_reply : Exported → List (List ℕ) → ℕ → NfsArgs → NfsResult
 nfs_reply files stored from args = nfs_result files (file_in stored swap_file) from args
-
--- The stored files afterwards.
-abbrev pub nfs_stored : Exported → List (List ℕ) → ℕ → NfsArgs → List (List ℕ)
-nfs_stored files stored from args = changed (nfs_change files from args) stored

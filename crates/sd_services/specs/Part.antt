@@ -34,9 +34,13 @@ abbrev pub swap_files : Option SwapLine → List (List ℕ)
 swap_files None = []
 swap_files (Some swap) = replicate swap.size 0 ∷ []
 
--- a server that was just opened
+-- A server that was just opened knows its files alone.
+abbrev pub opened_with : List (List ℕ) → ServerPart
+opened_with files = record { files = files; sessions = []; made = 0; mounts = [] }
+
+-- a server that was opened for the first time
 abbrev pub first_part : Config → ServerPart
-first_part c = record { files = swap_files c.swap; sessions = []; made = 0; mounts = [] }
+first_part c = opened_with (swap_files c.swap)
 
 -- what the server does with a packet: the packets that it sends, and its part afterwards
 pub record Replied : Type 0 where

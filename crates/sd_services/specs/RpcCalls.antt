@@ -1,6 +1,6 @@
 -- A call that comes to a program, and how a server refuses or answers it (RFC 1057, section 8).
-use Rattle.std.specs.Prelude.{ℕ, Bool, true, false, ◌&&◌, ◌==◌, nat_lt, not, if◌then◌else◌, List, [], Option, Some, None, Ok, Err}
-use Rattle.std.specs.Option.{option_map}
+use Rattle.std.specs.Prelude.{ℕ, Bool, true, false, ◌&&◌, ◌||◌, ◌==◌, nat_lt, not, if◌then◌else◌, List, [], Option, Some, None, Ok, Err}
+use Rattle.std.specs.Option.{option_map, option_and_then}
 use Rattle.sd_xdr.specs.declared.error.MsgError.TheVariants.{Xdr, RpcVersion, AuthLong, NoMemory}
 use Rattle.sd_xdr.specs.Kind.{whole, Kind, ended, Value, number_of, bytes_of, first, second}
 use Rattle.sd_xdr.specs.Reading.{Read, start, reading}
@@ -51,14 +51,19 @@ call_in v =
 
 -- ---- a program
 
--- Its number, its version, its last procedure (the first is 0), the arguments of each, and what it gives for what was read as
--- arguments: results, or no reply at all.
+-- Its number, its version, its last procedure (the first is 0) and which numbers before it are of none, the arguments of each, and
+-- what it gives for what was read as arguments: results, or no reply at all.
 pub record Program : Type 0 where
   pub prog : ℕ
   pub vers : ℕ
   pub last : ℕ
+  pub skips : ℕ → Bool
   pub args : ℕ → Kind whole
   pub gives : Value → Option (List ℕ)
+
+-- each number up to the last has a procedure
+abbrev pub none_between : ℕ → Bool
+none_between proc_no = false
 
 -- the server's verifier is AUTH_NULL (section 9.1)
 abbrev pub auth_null : OpaqueAuth
@@ -69,7 +74,7 @@ abbrev pub refusal : Program → ℕ → ℕ → ℕ → Option Outcome
 refusal p prog vers proc_no =
     if not (prog == p.prog) then Some (ProgUnavail auth_null) else
     (if not (vers == p.vers) then Some (ProgMismatch auth_null p.vers p.vers) else
-    (if nat_lt p.last proc_no then Some (ProcUnavail auth_null) else None))
+    (if p.skips proc_no || nat_lt p.last proc_no then Some (ProcUnavail auth_null) else None))
 
 -- GARBAGE_ARGS where nothing was read as arguments
 abbrev pub answered : Program → Option Value → Option Outcome
@@ -118,3 +123,25 @@ reply_to_read p (Err NoMemory) = None
 -- the reply to a datagram with this body, where there is one
 abbrev pub reply_to : Program → List ℕ → Option Reply
 reply_to p body = reply_to_read p (reading message (start body))
+
+-- ---- calls that are not refused
+
+abbrev pub call_read : Read → Option Call
+call_read (Ok read) = if is_call read.0 then Some (call_in read.0) else None
+call_read (Err why) = None
+
+-- the call that the body of a datagram spells
+abbrev pub spelled_call : List ℕ → Option Call
+spelled_call body = call_read (reading message (start body))
+
+abbrev pub if_passed : Option Outcome → Option Value → Option Value
+if_passed (Some refused) args = None
+if_passed None args = args
+
+-- what is read as the arguments of a call, where it is refused neither for its credentials nor by the program
+abbrev pub arguments_of : Program → Call → Option Value
+arguments_of p call = if_passed (auth_refusal call.cred) (if_passed (refusal p call.prog call.vers call.proc_no) (spelled (p.args call.proc_no) call.args))
+
+-- the same of the call that the body of a datagram spells
+abbrev pub asked : Program → List ℕ → Option Value
+asked p body = option_and_then (arguments_of p) (spelled_call body)

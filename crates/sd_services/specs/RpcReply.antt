@@ -1,4 +1,4 @@
--- The server's RPC programs: the portmapper (RFC 1057, appendix A) and bootparams (bootparam_prot.x of SunOS).
+-- The server's RPC programs: the portmapper (RFC 1057, appendix A), bootparams (bootparam_prot.x of SunOS), MOUNT and NFS (RFC 1094).
 use Rattle.std.specs.Prelude.{ℕ, ◌+◌, ◌*◌, Bool, false, ◌==◌, ◌||◌, if◌then◌else◌, List, [], ◌∷◌, Option, Some, None}
 use Rattle.std.specs.Option.{option_map}
 use Rattle.sd_outside.specs.declared.packet.Addr.{Addr}
@@ -17,6 +17,7 @@ use Rattle.sd_portmap.specs.declared.message.PmapArgs.TheVariants as pmap
 use Rattle.sd_portmap.specs.declared.message.PmapResult.{PmapResult}
 use Rattle.sd_portmap.specs.declared.message.PmapResult.TheVariants as pmap_result
 use Rattle.sd_portmap.specs.Layout as portmap
+use Rattle.sd_portmap.specs.Layout.{pmap_port}
 use Rattle.sd_portmap.specs.Table.{port_of}
 use Rattle.sd_bootparams.specs.declared.book.Host.{Host}
 use Rattle.sd_bootparams.specs.BookView.{BookView}
@@ -28,7 +29,10 @@ use Rattle.sd_bootparams.specs.declared.message.BpResult.{BpResult}
 use Rattle.sd_bootparams.specs.declared.message.BpResult.TheVariants as bp_result
 use Rattle.sd_bootparams.specs.Layout as bootparam
 use Rattle.sd_config.specs.declared.config.Config.{Config}
-use Rattle.sd_services.specs.RpcCalls.{Program, accepted, reply_to}
+use Rattle.sd_services.specs.RpcCalls.{Program, none_between, accepted, reply_to}
+use Rattle.sd_services.specs.MountReply.{mount_port, mount, mounts_after}
+use Rattle.sd_nfs_msg.specs.Layout.{nfs_port}
+use Rattle.sd_services.specs.NfsCalls.{nfs}
 use Rattle.sd_services.specs.Part.{ServerPart, Replied}
 
 -- ---- bootparams: program 100026, version 1
@@ -67,20 +71,13 @@ bp_answer c bp.Null = Some bp_result.Void
 bp_answer c (bp.Whoami ip) = option_map (λ found. bp_result.Whoami found.0 found.1 found.2) (whoami_of (book_of c) ip)
 bp_answer c (bp.Getfile client key) = option_map (λ found. bp_result.Getfile found.0 found.1 found.2) (getfile_of (book_of c) client key)
 
+abbrev pub bp_giving : (Value → Option (List ℕ)) → Program
+bp_giving gives = record { prog = 100026; vers = 1; last = 2; skips = none_between; args = bootparam.args_kind; gives = gives }
+
 abbrev pub bootparams : Config → Program
-bootparams c = record {
-  prog = 100026;
-  vers = 1;
-  last = 2;
-  args = bootparam.args_kind;
-  gives = λ v. option_map bootparam.result_bytes (bp_answer c (bp_args_in v));
-}
+bootparams c = bp_giving (λ v. option_map bootparam.result_bytes (bp_answer c (bp_args_in v)))
 
 -- ---- the portmapper: program 100000, version 2
-
--- its port (RFC 1057, appendix A)
-abbrev pub pmap_port : ℕ
-pmap_port = 111
 
 -- a program that is served over UDP, IP protocol 17
 abbrev pub over_udp : ℕ → ℕ → ℕ → Mapping
@@ -88,7 +85,7 @@ over_udp prog vers port = record { prog = prog; vers = vers; prot = 17; port = p
 
 -- the portmapper, bootparams, MOUNT and NFS
 abbrev pub mappings : List Mapping
-mappings = over_udp 100000 2 111 ∷ over_udp 100026 1 1016 ∷ over_udp 100005 1 1017 ∷ over_udp 100003 2 2049 ∷ []
+mappings = over_udp 100000 2 pmap_port ∷ over_udp 100026 1 bootparams_port ∷ over_udp 100005 1 mount_port ∷ over_udp 100003 2 nfs_port ∷ []
 
 -- mapping: prog, vers, prot, port
 abbrev pub mapping_in : Value → Mapping
@@ -133,22 +130,23 @@ pmap_answer c (pmap.Getport m) = Some (pmap_result.Port (port_of mappings m.prog
 pmap_answer c pmap.Dump = Some (pmap_result.Mappings mappings)
 pmap_answer c (pmap.Callit prog vers proc_no args) = option_map (pmap_result.Callit bootparams_port) (results_in (accepted (bootparams c) prog vers proc_no args))
 
+abbrev pub pmap_giving : (Value → Option (List ℕ)) → Program
+pmap_giving gives = record { prog = 100000; vers = 2; last = 5; skips = none_between; args = portmap.args_kind; gives = gives }
+
 abbrev pub portmapper : Config → Program
-portmapper c = record {
-  prog = 100000;
-  vers = 2;
-  last = 5;
-  args = portmap.args_kind;
-  gives = λ v. option_map portmap.result_bytes (pmap_answer c (pmap_args_in v));
-}
+portmapper c = pmap_giving (λ v. option_map portmap.result_bytes (pmap_answer c (pmap_args_in v)))
 
 -- ---- datagrams
 
 abbrev pub is_rpc_port : ℕ → Bool
-is_rpc_port port = (port == pmap_port) || (port == bootparams_port)
+is_rpc_port port = (port == pmap_port) || (port == bootparams_port) || (port == mount_port) || (port == nfs_port)
 
-abbrev pub program_at : Config → ℕ → Program
-program_at c port = if port == pmap_port then portmapper c else bootparams c
+-- the program at one of these ports, as an address sees it
+abbrev pub program_at : Config → ServerPart → ℕ → ℕ → Program
+program_at c part from port =
+    if port == pmap_port then portmapper c else
+    (if port == bootparams_port then bootparams c else
+    (if port == mount_port then mount c part.mounts from else nfs c part.files from))
 
 -- a reply from the port that was asked at the server's address
 abbrev pub rpc_packet : Config → ℕ → Addr → Reply → Packet
@@ -158,9 +156,13 @@ abbrev pub as_packets : Option Packet → List Packet
 as_packets None = []
 as_packets (Some packet) = packet ∷ []
 
-abbrev pub rpc_out : Config → Addr → ℕ → List ℕ → List Packet
-rpc_out c from port body = as_packets (option_map (rpc_packet c port from) (reply_to (program_at c port) body))
+abbrev pub rpc_out : Config → ServerPart → Addr → ℕ → List ℕ → List Packet
+rpc_out c part from port body = as_packets (option_map (rpc_packet c port from) (reply_to (program_at c part from.ip port) body))
 
--- What the server does with a datagram to one of these ports. Neither program changes anything.
+-- MOUNT alone changes the mounts
+abbrev pub mounts_then : Config → ServerPart → Addr → ℕ → List ℕ → List (ℕ × List ℕ)
+mounts_then c part from port body = if port == mount_port then mounts_after c part.mounts from.ip body else part.mounts
+
+-- What the server does with a datagram to one of these ports, but for its files.
 abbrev pub rpc_reply : Config → ServerPart → Addr → ℕ → List ℕ → Replied
-rpc_reply c part from port body = record { out = rpc_out c from port body; next = part }
+rpc_reply c part from port body = record { out = rpc_out c part from port body; next = record part { mounts = mounts_then c part from port body } }

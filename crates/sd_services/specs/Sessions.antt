@@ -8,7 +8,7 @@ use Rattle.sd_outside.specs.declared.packet.Packet.TheVariants.{Udp}
 use Rattle.sd_tftp.specs.declared.packet.TftpPacket.{TftpPacket}
 use Rattle.sd_tftp.specs.declared.packet.TftpPacket.TheVariants.{Rrq, Wrq, Block, Ack, Error}
 use Rattle.sd_tftp.specs.declared.packet.TftpError.{TftpError}
-use Rattle.sd_tftp.specs.Grammar.{packet_bytes}
+use Rattle.sd_tftp.specs.Grammar.{tftp_port, packet_bytes}
 use Rattle.sd_tftp.specs.Reading.{reading}
 use Rattle.sd_tftp.specs.Blocks.{block_at}
 use Rattle.sd_config.specs.declared.config.Config.{Config}
@@ -16,10 +16,6 @@ use Rattle.sd_config.specs.Program.{boot_file}
 use Rattle.sd_services.specs.Part.{Session, ServerPart, Replied, silence}
 
 -- ---- ports and packets
-
--- the port for requests
-abbrev pub tftp_port : ℕ
-tftp_port = 69
 
 -- each session has a port of its own, until 4,096 more were made
 abbrev pub session_port : ℕ → ℕ

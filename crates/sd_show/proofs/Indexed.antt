@@ -10,7 +10,8 @@ use Rattle.sd_outside.specs.declared.packet.Addr.{Addr}
 use Rattle.sd_show.specs.declared.procedures.Procedure.{Procedure}
 use Rattle.sd_show.specs.declared.calls.Heard.{Heard}
 use Rattle.sd_show.specs.declared.calls.Exchange.{Exchange}
-use Rattle.sd_show.specs.Calls.{broadcast, is_answered, or_else, answered}
+use Rattle.sd_outside.specs.Bytes.{broadcast_ip}
+use Rattle.sd_show.specs.Calls.{is_answered, or_else, answered}
 use Rattle.sd_show.specs.Exchanges.{exchange_of, exchange_cmp, is_of, or_that, latest, later, IsIndex, IsAskedAt}
 
 -- ---- the order tells exchanges apart
@@ -144,7 +145,7 @@ step d h place calls (Some n) (Some m) u v le ge = deeper d h place calls (cond 
 
 -- to all machines, at the port from which a reply comes
 abbrev pub to_all : Addr → Addr
-to_all src = record { ip = broadcast; port = src.port }
+to_all src = record { ip = broadcast_ip; port = src.port }
 
 two_ways : (x a b c d e f : Bool) → (x && (a && b) && ((c && d) || (e && f))) ≡ ((x && (a && (b && (c && d)))) || (x && (a && (b && (e && f)))))
 two_ways false a b c d e f = refl
@@ -154,7 +155,7 @@ two_ways true true true c d e f = refl
 
 answered_by : (xid : ℕ) (src dst : Addr) (h : Heard) → is_answered xid src dst h ≡ (is_of (exchange_of xid dst src) h || is_of (exchange_of xid dst (to_all src)) h)
 answered_by xid src dst h =
-    two_ways (eqb h.xid xid) (eqb h.src.ip dst.ip) (eqb h.src.port dst.port) (eqb h.dst.ip src.ip) (eqb h.dst.port src.port) (eqb h.dst.ip broadcast) (eqb h.dst.port src.port)
+    two_ways (eqb h.xid xid) (eqb h.src.ip dst.ip) (eqb h.src.port dst.port) (eqb h.dst.ip src.ip) (eqb h.dst.port src.port) (eqb h.dst.ip broadcast_ip) (eqb h.dst.port src.port)
 
 found : (xid : ℕ) (src dst : Addr) (d : Heard) (place : ℕ) (calls : List Heard)
     → answered xid src dst calls ≡ asked_at d place calls (later (latest (exchange_of xid dst src) place calls) (latest (exchange_of xid dst (to_all src)) place calls))

@@ -1,5 +1,6 @@
 -- The calls that earlier packets held, by which replies are known.
 use Rattle.std.specs.Prelude.{ℕ, Bool, ◌&&◌, ◌||◌, ◌==◌, List, [], ◌∷◌, ◌++◌, Option, Some, None, if◌then◌else◌}
+use Rattle.sd_outside.specs.Bytes.{broadcast_ip}
 use Rattle.sd_outside.specs.declared.packet.Addr.{Addr}
 use Rattle.sd_rpc_msg.specs.declared.message.Call.{Call}
 use Rattle.sd_rpc_msg.specs.declared.message.Message.{Message}
@@ -13,15 +14,11 @@ procedure_of c = record { prog = c.prog; vers = c.vers; proc_no = c.proc_no }
 abbrev pub same_addr : Addr → Addr → Bool
 same_addr a b = a.ip == b.ip && a.port == b.port
 
--- the address of every machine
-abbrev pub broadcast : ℕ
-broadcast = 4294967295
-
 -- Whether a reply with this number, from the first address to the second, answers a call: that was sent the other way round, or to
 -- all machines at the port from which the reply comes.
 abbrev pub is_answered : ℕ → Addr → Addr → Heard → Bool
 is_answered xid src dst call =
-    call.xid == xid && same_addr call.src dst && (same_addr call.dst src || (call.dst.ip == broadcast && call.dst.port == src.port))
+    call.xid == xid && same_addr call.src dst && (same_addr call.dst src || (call.dst.ip == broadcast_ip && call.dst.port == src.port))
 
 abbrev pub or_else : Option Procedure → Option Procedure → Option Procedure
 or_else (Some p) other = Some p

@@ -11,6 +11,7 @@ use Rattle.sd_rpc_msg.specs.Layout.{message, message_value}
 use Rattle.sd_rpc_msg.specs.Laws.{IsMessage}
 use Rattle.sd_tftp.specs.declared.packet.TftpPacket.{TftpPacket}
 use Rattle.sd_tftp.specs.Grammar as tftp
+use Rattle.sd_tftp.specs.Grammar.{tftp_port}
 use Rattle.sd_rarp.specs.declared.frame.RarpFrame.{RarpFrame}
 use Rattle.sd_rarp.specs.declared.frame.RarpFrame.TheVariants as frames
 use Rattle.sd_rarp.specs.Frame.{Spells, frame_bytes}
@@ -24,7 +25,7 @@ use Rattle.sd_show.specs.Calls.{heard}
 
 -- the ports at which a datagram is one of TFTP: the server's (RFC 1350, section 4), and those of its sessions
 abbrev pub is_tftp_port : ℕ → Bool
-is_tftp_port port = port == 69 || (nat_le 4096 port && nat_le port 8191)
+is_tftp_port port = port == tftp_port || (nat_le 4096 port && nat_le port 8191)
 
 abbrev pub is_tftp : Addr → Addr → Bool
 is_tftp src dst = is_tftp_port src.port || is_tftp_port dst.port

@@ -5,7 +5,7 @@ ghost use Rattle.sd_show.specs.Calls.{procedure_of, answered};
 ghost use Rattle.sd_show.specs.Exchanges.{exchange_of, later, IsIndex, IsAskedAt};
 
 use crate::procedures::Procedure;
-use sd_outside::{Addr, NoMemory};
+use sd_outside::{Addr, BROADCAST_IP, NoMemory};
 use sd_rpc_msg::Call;
 use std::alloc::Global;
 use std::collections::BTreeMap;
@@ -60,9 +60,6 @@ pub fn procedure_of(call: &Call) -> Procedure
     }
 }
 
-/// The address of every machine.
-const BROADCAST: u32 = 0xffff_ffff;
-
 /// The exchange of a call with this number from `src` to `dst`.
 fn exchange_of(xid: u32, src: Addr, dst: Addr) -> Exchange
     ensures { result ≡ exchange_of xid src dst }
@@ -102,10 +99,9 @@ fn add(
     let place = calls.as_slice().len();
     calls.try_reserve(1)?;
     index.insert(exchange_of(call.xid, call.src, call.dst), place)?;
-    match calls.push(call) {
-        Ok(()) => Ok(()),
-        Err(_) => unreachable!(),
-    }
+    // The room for it was made above.
+    let _ = calls.push(call);
+    Ok(())
 }
 
 impl Seen {
@@ -127,7 +123,7 @@ impl Seen {
     {
         let port = src.port;
         let all = Addr {
-            ip: BROADCAST,
+            ip: BROADCAST_IP,
             port,
         };
         let sent_back = self.index.get(&exchange_of(xid, dst, src)).copied();

@@ -29,6 +29,3 @@ pub use laws::{
     shown_is_packed,
 };
 pub use packets::{pack_line, show_line};
-
-#[cfg(test)]
-mod tests;

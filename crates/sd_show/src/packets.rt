@@ -24,14 +24,14 @@ use sd_outside::{Addr, ByteList, NoMemory, Packet};
 use sd_rarp::{read_frame, write_frame};
 use sd_rpc_msg::{Message, Outcome, read_message, write_message};
 use sd_text::{LineError, addr_list, same_text};
-use sd_tftp::{read_packet, write_packet};
+use sd_tftp::{TFTP_PORT, read_packet, write_packet};
 use std::alloc::Global;
 
 /// Whether a port is one of TFTP: the server's, or that of a session.
 fn is_tftp_port(port: u16) -> bool
     ensures { result ≡ is_tftp_port port }
 {
-    port == 69 || (4096..=8191).contains(&port)
+    port == TFTP_PORT || (4096..=8191).contains(&port)
 }
 
 fn is_tftp(src: Addr, dst: Addr) -> bool

@@ -14,6 +14,3 @@ mod store;
 pub use errors::{OpenError, StoreError};
 pub use image::image_of;
 pub use store::Store;
-
-#[cfg(test)]
-mod tests;

@@ -47,7 +47,7 @@ front_behind old mid new head rest e a = record {
 
 -- a line is that of one packet
 
-one_addr : (text : Text) (a b : Addr) → IsAddr text a → IsAddr text b → a ≡ b
+pub one_addr : (text : Text) (a b : Addr) → IsAddr text a → IsAddr text b → a ≡ b
 one_addr text a b x y =
     let e = sym x.parts ∙ y.parts in
     let ip : a.ip ≡ b.ip = one_ip y.ip a.ip b.ip (subst (λ (t : Text). IsIp t a.ip) (firsts e) x.is_ip) y.is_ip in

@@ -6,12 +6,14 @@
 //! contracts of the functions that do nothing.
 #![tactic(auto)]
 
+mod bodies;
 mod error;
 mod items;
 mod laws;
 mod reader;
 mod writer;
 
+pub use bodies::{Body, read_body};
 pub use error::{MsgError, XdrError};
 pub use items::{Item, read_list, read_times, write_list, write_times};
 pub use laws::{
@@ -20,6 +22,3 @@ pub use laws::{
 };
 pub use reader::XdrReader;
 pub use writer::XdrWriter;
-
-#[cfg(test)]
-mod tests;

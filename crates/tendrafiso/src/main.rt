@@ -1,8 +1,9 @@
 //! The boot chain of a diskless client, as programs over standard input and output.
 #![tactic(auto)]
 
-use sd_boot::{StandardInput, StandardOutput, Status, Text, run};
+use sd_boot::{Status, Text, run};
 use sd_outside::NoMemory;
+use sd_streams::{StandardInput, StandardOutput};
 use std::io;
 use std::process::ExitCode;
 

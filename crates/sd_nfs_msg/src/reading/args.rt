@@ -10,7 +10,7 @@ use super::{data_of, path_of};
 use crate::message::NfsArgs;
 use crate::parts::{Sattr, read_cookie};
 use sd_outside::{ByteList, FHandle};
-use sd_xdr::{Item, MsgError, XdrReader};
+use sd_xdr::{Body, Item, MsgError, XdrReader, read_body};
 use std::alloc::Global;
 
 #[tactic(auto, unfolding(sd_xdr::specs::Reading::reading))]
@@ -203,38 +203,29 @@ fn names_part(alloc: Global, reader: &mut XdrReader, proc_no: u32) -> Result<Nfs
     }
 }
 
-fn args_part(alloc: Global, reader: &mut XdrReader, proc_no: u32) -> Result<NfsArgs, MsgError>
-    requires limit { proc_no ≤ 17 }
-    requires not_root { proc_no ≢ 3 }
-    requires not_writecache { proc_no ≢ 7 }
-    ensures takes { Takes (given proc_no (args_layout proc_no)) args_value reader.old reader.new result }
-    ensures of_proc { IfOk result (λ a. proc_of a ≡ proc_no) }
-    ensures fits { IfOk result ArgsFit }
-{
-    if proc_no < 9 {
-        file_part(alloc, reader, proc_no)
-    } else {
-        names_part(alloc, reader, proc_no)
-    }
-}
+/// The arguments of procedures 0 to 17 without 3 and 7.
+impl Body for NfsArgs {
+    ghost has = { λ n. (n ≤ 17) × (n ≢ 3) × (n ≢ 7) };
 
-#[tactic(auto, unfolding(sd_xdr::specs::Reading::reading))]
-fn args_of(alloc: Global, reader: &mut XdrReader, proc_no: u32) -> Result<NfsArgs, MsgError>
-    requires limit { proc_no ≤ 17 }
-    requires not_root { proc_no ≢ 3 }
-    requires not_writecache { proc_no ≢ 7 }
-    ensures takes { Takes (args_kind proc_no) args_value reader.old reader.new result }
-    ensures of_proc { IfOk result (λ a. proc_of a ≡ proc_no) }
-    ensures fits { IfOk result ArgsFit }
-{
-    let args = args_part(alloc, reader, proc_no)?;
-    reader.end()?;
-    Ok(args)
+    ghost kind = { λ n. given n (args_layout n) };
+
+    ghost value = { args_value };
+
+    ghost is_of = { λ n a. proc_of a ≡ n };
+
+    ghost fits = { ArgsFit };
+
+    fn read_part(alloc: Global, reader: &mut XdrReader, proc_no: u32) -> Result<NfsArgs, MsgError> {
+        if proc_no < 9 {
+            file_part(alloc, reader, proc_no)
+        } else {
+            names_part(alloc, reader, proc_no)
+        }
+    }
 }
 
 /// The arguments of a procedure that the bytes, all of them, spell, or the first refusal in the order of the bytes. Procedures go
 /// up to 17; 3 and 7 are obsolete and unused (RFC 1094, sections 2.2.4 and 2.2.8).
-#[tactic(auto, using(sd_xdr::proofs::Whole::answers))]
 pub fn read_args(alloc: Global, proc_no: u32, bytes: &[u8]) -> Result<NfsArgs, MsgError>
     requires limit { proc_no ≤ 17 }
     requires not_root { proc_no ≢ 3 }
@@ -244,5 +235,5 @@ pub fn read_args(alloc: Global, proc_no: u32, bytes: &[u8]) -> Result<NfsArgs, M
     // What was read can be written.
     ensures fits { IfOk result ArgsFit }
 {
-    args_of(alloc, &mut XdrReader::new(bytes), proc_no)
+    read_body(alloc, proc_no, bytes)
 }

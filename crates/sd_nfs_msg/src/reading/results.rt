@@ -10,7 +10,7 @@ use super::{data_of, path_of};
 use crate::message::NfsResult;
 use crate::parts::Fattr;
 use sd_outside::FHandle;
-use sd_xdr::{Item, MsgError, XdrReader, read_list};
+use sd_xdr::{Body, Item, MsgError, XdrReader, read_body, read_list};
 use std::alloc::Global;
 
 #[tactic(auto, unfolding(sd_xdr::specs::Reading::reading))]
@@ -126,39 +126,36 @@ fn done_part(alloc: Global, reader: &mut XdrReader, proc_no: u32) -> Result<NfsR
     }
 }
 
-#[tactic(auto, unfolding(sd_xdr::specs::Reading::reading))]
-fn result_part(alloc: Global, reader: &mut XdrReader, proc_no: u32) -> Result<NfsResult, MsgError>
-    requires limit { proc_no ≤ 17 }
-    requires not_root { proc_no ≢ 3 }
-    requires not_writecache { proc_no ≢ 7 }
-    ensures takes { Takes (result_layout proc_no) result_value reader.old reader.new result }
-    ensures of_proc { IfOk result (λ r. IsResultOf proc_no r) }
-{
-    if proc_no == 0 {
-        return Ok(NfsResult::Null);
-    }
-    match reader.u32()? {
-        0 => Ok(done_part(alloc, reader, proc_no)?),
-        status => Ok(NfsResult::Refused { status }),
-    }
-}
+/// The results of procedures 0 to 17 without 3 and 7.
+impl Body for NfsResult {
+    ghost has = { λ n. (n ≤ 17) × (n ≢ 3) × (n ≢ 7) };
 
-#[tactic(auto, unfolding(sd_xdr::specs::Reading::reading))]
-fn result_of(alloc: Global, reader: &mut XdrReader, proc_no: u32) -> Result<NfsResult, MsgError>
-    requires limit { proc_no ≤ 17 }
-    requires not_root { proc_no ≢ 3 }
-    requires not_writecache { proc_no ≢ 7 }
-    ensures takes { Takes (result_kind proc_no) result_value reader.old reader.new result }
-    ensures of_proc { IfOk result (λ r. IsResultOf proc_no r) }
-{
-    let result = result_part(alloc, reader, proc_no)?;
-    reader.end()?;
-    Ok(result)
+    ghost kind = { result_layout };
+
+    ghost value = { result_value };
+
+    ghost is_of = { IsResultOf };
+
+    ghost fits = { λ _. Unit {0} };
+
+    #[tactic(auto, unfolding(sd_xdr::specs::Reading::reading))]
+    fn read_part(
+        alloc: Global,
+        reader: &mut XdrReader,
+        proc_no: u32,
+    ) -> Result<NfsResult, MsgError> {
+        if proc_no == 0 {
+            return Ok(NfsResult::Null);
+        }
+        match reader.u32()? {
+            0 => Ok(done_part(alloc, reader, proc_no)?),
+            status => Ok(NfsResult::Refused { status }),
+        }
+    }
 }
 
 /// The result of a procedure that the bytes, all of them, spell, or the first refusal in the order of the bytes. Any status that
 /// isn't 0 is a refusal by the server. Procedures go up to 17; 3 and 7 are obsolete and unused (RFC 1094, sections 2.2.4 and 2.2.8).
-#[tactic(auto, using(sd_xdr::proofs::Whole::answers))]
 pub fn read_result(alloc: Global, proc_no: u32, bytes: &[u8]) -> Result<NfsResult, MsgError>
     requires limit { proc_no ≤ 17 }
     requires not_root { proc_no ≢ 3 }
@@ -168,5 +165,5 @@ pub fn read_result(alloc: Global, proc_no: u32, bytes: &[u8]) -> Result<NfsResul
     // What was read can be written.
     ensures fits { IfOk result ResultFits }
 {
-    result_of(alloc, &mut XdrReader::new(bytes), proc_no)
+    read_body(alloc, proc_no, bytes)
 }

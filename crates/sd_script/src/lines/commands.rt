@@ -1,4 +1,4 @@
-ghost use Rattle.std.specs.Prelude.{◌≡◌, []};
+ghost use Rattle.std.specs.Prelude.{[]};
 ghost use Rattle.sd_script.specs.Judging.{Judges};
 ghost use Rattle.sd_text.specs.Answers.{Tells};
 ghost use Rattle.sd_script.specs.Lines.{AddsCommand, MayBeCommand, AddrLine, BootLine, WaitCommandLine};

@@ -1,4 +1,4 @@
-ghost use Rattle.std.specs.Prelude.{◌≡◌, ◌≢◌, IsTrue, ◌↔◌, IfSome};
+ghost use Rattle.std.specs.Prelude.{◌≢◌, IsTrue, ◌↔◌, IfSome};
 ghost use Rattle.sd_config.specs.declared.config.SwapLine.{SwapLine};
 ghost use Rattle.sd_script.specs.Judging.{Judges};
 ghost use Rattle.sd_script.specs.Lines.{ArchLine, HostLine, MayAddHost, RootLine, KernelLine, SwapFileLine, MayBeRoot, MayBeSwap};

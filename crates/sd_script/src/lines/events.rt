@@ -1,11 +1,17 @@
 ghost use Rattle.std.specs.Prelude.{IsTrue, ◌↔◌};
+ghost use Rattle.sd_config.specs.Events.{IsElsewhere};
 ghost use Rattle.sd_text.specs.Answers.{Reads, Tells};
 ghost use Rattle.sd_script.specs.Judging.{Judges, ReadsDelay};
-ghost use Rattle.sd_script.specs.Lines.{FateLine, MayAddFate, MayBeEvent, IsDelays};
+ghost use Rattle.sd_script.specs.Lines.{FateLine, MayBeEvent, IsDelays, StrangerLine};
 
 use crate::draft::{Draft, Section};
-use sd_config::{Fate, TickList};
-use sd_text::{LineError, Parts, read_number, same_text, take_end, take_number};
+use crate::limits::{BODY_LIMIT, STRANGER_LIMIT};
+use sd_config::{Config, Fate, Stranger, TickList};
+use sd_outside::Addr;
+use sd_portmap::PMAP_PORT;
+use sd_text::{
+    LineError, Parts, read_number, same_text, take_addr, take_end, take_number, take_runs,
+};
 use std::alloc::Global;
 
 /// The next line may be an event line.
@@ -62,6 +68,43 @@ pub fn fate_line(alloc: Global, draft: &mut Draft, mut fields: Parts<'_>) -> Res
         return Err(LineError::Outside);
     }
     draft.fates.add(Fate { id, delays })?;
+    draft.section = Section::Events;
+    Ok(())
+}
+
+/// Whether an address is neither end's, and not that of a portmapper.
+fn is_elsewhere(config: &Config, src: Addr) -> bool
+    ensures { IsTrue result ↔ IsElsewhere config.now.client.ip config.now.server.ip src }
+{
+    src.ip != config.client.ip && src.ip != config.server.ip && src.port != PMAP_PORT
+}
+
+/// `stranger TICK ADDR ADDR BYTES`
+pub fn stranger_line(
+    alloc: Global,
+    draft: &mut Draft,
+    mut fields: Parts<'_>,
+) -> Result<(), LineError>
+    ensures { Judges StrangerLine draft.old fields.entry draft.new result }
+{
+    may_be_event(draft.section)?;
+    let tick = take_number(&mut fields, 1, 4_294_967_295)?;
+    let src = take_addr(&mut fields)?;
+    let dst = take_addr(&mut fields)?;
+    let body = take_runs(alloc, &mut fields, BODY_LIMIT)?;
+    take_end(&mut fields)?;
+    if !is_elsewhere(&draft.config, src) {
+        return Err(LineError::Outside);
+    }
+    if draft.strangers.as_slice().len() >= STRANGER_LIMIT {
+        return Err(LineError::Outside);
+    }
+    draft.strangers.push(Stranger {
+        tick,
+        src,
+        dst,
+        body,
+    })?;
     draft.section = Section::Events;
     Ok(())
 }

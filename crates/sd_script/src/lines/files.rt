@@ -1,4 +1,4 @@
-ghost use Rattle.std.specs.Prelude.{◌≡◌, ◌≢◌, length, IsTrue, ◌↔◌};
+ghost use Rattle.std.specs.Prelude.{◌≡◌, IsTrue, ◌↔◌};
 ghost use Rattle.sd_config.specs.Config.{item_path};
 ghost use Rattle.sd_script.specs.Judging.{Judges};
 ghost use Rattle.sd_script.specs.Lines.{TftpLine, FileLine, LinkLine, HasRoom, MayAddBootFile, MayAddItem};

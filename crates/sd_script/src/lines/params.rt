@@ -1,5 +1,4 @@
-ghost use Rattle.std.specs.Prelude.{◌≡◌, ◌+◌};
-ghost use Rattle.sd_bootparams.specs.LineByLine.{line_parts, after_line};
+ghost use Rattle.std.specs.Prelude.{◌+◌};
 ghost use Rattle.sd_script.specs.Judging.{Judges, TakesRest};
 ghost use Rattle.sd_script.specs.Lines.{ParamsLine};
 

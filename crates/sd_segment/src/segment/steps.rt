@@ -1,19 +1,21 @@
 //! Each single step of a segment.
-ghost use Rattle.std.specs.Prelude.{◌≡◌, ◌+◌, ◌-◌, ◌^◌, ◌<◌, ◌≤◌, nat_le, [], ◌∷◌, length, drop, min, max, OnOk, OnErr, IfOk, IfSome, Some, None, slice_get};
+ghost use Rattle.std.specs.Prelude.{◌≡◌, ◌+◌, ◌-◌, ◌^◌, ◌<◌, ◌≤◌, [], ◌∷◌, drop, min, max, OnOk, OnErr, IfOk, IsTrue, Some, None, slice_get};
 ghost use Rattle.sd_link.specs.Link.{last_tick};
-ghost use Rattle.sd_link.specs.Steps.{Tick, Send, Serve, Data, Get};
-ghost use Rattle.sd_link.specs.Steps as steps;
+ghost use Rattle.sd_link.specs.Steps.{Send, Serve, Get};
 ghost use Rattle.sd_segment.specs.Segment.{Rests};
-ghost use Rattle.sd_server.specs.Server.{dues, IsNext};
-ghost use Rattle.sd_segment.specs.Passing.{Passes};
+ghost use Rattle.std.specs.List.{list_any};
+ghost use Rattle.sd_outside.specs.Causes.{Rose};
+ghost use Rattle.sd_services.specs.Sessions.{is_due};
+ghost use Rattle.sd_segment.specs.Passing.{Passes, Advances, TakesTurns, Fails};
 
 use crate::due::{due_ids, place_of};
 use crate::ends::End;
 use crate::flown::{Flown, Kept, Origin, What};
-use crate::pushing::{next_id, push_both, push_served};
+use crate::pushing::{
+    next_id, push_both, push_packets, push_served, push_strays, push_turns, reserve_both, room_for,
+};
 use crate::segment::Segment;
 use sd_outside::{NoMemory, Packet};
-use sd_server::{Sending, sent_again};
 
 impl Segment {
     pub(crate) fn next_to_server(&self) -> Option<usize>
@@ -37,7 +39,7 @@ impl Segment {
         ensures handed { self.new.handed ≡ self.old.handed }
     {
         let id = next_id(self.flight.as_slice())?;
-        let fate = place_of(self.events.fates.as_slice(), id);
+        let fate = place_of(self.events.fates(), id);
         let tick = self.tick;
         let flown = Flown {
             from: Origin::Client,
@@ -59,89 +61,79 @@ impl Segment {
         ensures tick { self.new.tick ≡ self.old.tick }
         ensures handed { self.new.handed ≡ self.old.handed }
     {
+        let first = next_id(self.flight.as_slice())?;
+        let fate = place_of(self.events.fates(), first);
+        reserve_both(&mut self.flight, &mut self.kept, 1)?;
+        let tick = self.tick;
         let flight = self.flight.as_slice();
-        let answer = self
-            .server
-            .answer(self.alloc, self.tick, &flight[id].packet)?;
-        let first = next_id(flight)?;
-        let fate = place_of(self.events.fates.as_slice(), first);
+        let packets = self.server.serve(tick, &flight[id].packet)?;
         push_served(
-            &mut self.server,
             &mut self.flight,
             &mut self.kept,
-            answer,
-            self.tick,
+            packets,
+            tick,
             id,
             first,
             fate,
-        )?;
+        );
         self.to_server.take_next();
         Ok(())
     }
 
-    /// The next session whose present block is due.
-    pub(crate) fn next_due(&self) -> Option<Sending>
-        ensures next { IfSome result (λ s. IsNext self.now.config self.now.server self.now.tick s) }
-        ensures rests { result ≡ None → dues self.now.config self.now.tick self.now.server ≡ [] }
+    /// Whether the block of a session is due.
+    pub(crate) fn is_due(&self) -> bool
+        ensures { result ≡ list_any (is_due self.now.config self.now.tick) self.now.server.sessions }
     {
-        self.server.next_due(self.tick)
+        self.server.is_due(self.tick)
     }
 
-    /// Whether a session sent its present block as often as it may.
-    pub(crate) fn is_spent(&self, session: &Sending) -> bool
-        ensures { result ≡ nat_le self.now.config.tries session.now.sends }
+    /// Whether the server is done with this tick.
+    pub(crate) fn is_at_rest(&self) -> bool
+        ensures { IsTrue result → Rests self.now }
     {
-        self.server.config().tries <= session.sends
+        match self.next_to_server() {
+            Some(_) => false,
+            None => !self.is_due(),
+        }
     }
 
-    /// The next session whose block is due sends it again.
-    pub(crate) fn send_again(&mut self, session: Sending) -> Result<(), NoMemory>
+    /// Each session whose present block is due sends it again, or ends.
+    pub(crate) fn take_turns(&mut self) -> Result<(), NoMemory>
         requires served { self.old.to_server ≡ [] }
-        requires next { IsNext self.old.config self.old.server self.old.tick session }
-        requires may { session.sends < self.old.config.tries }
-        ensures ok { OnOk result (Passes self.old self.new (Data session.number ∷ [])) }
-        ensures less { OnOk result (length (dues self.new.config self.new.tick self.new.server) < length (dues self.old.config self.old.tick self.old.server)) }
-        ensures served { self.new.to_server ≡ self.old.to_server }
+        ensures ok { OnOk result (TakesTurns self.old self.new) }
+        ensures rests { OnOk result (Rests self.new) }
         ensures err { OnErr result (self.new ≡ self.old) }
         ensures tick { self.new.tick ≡ self.old.tick }
         ensures handed { self.new.handed ≡ self.old.handed }
     {
-        let packet = self.server.block(self.alloc, &session)?;
-        let id = next_id(self.flight.as_slice())?;
-        let fate = place_of(self.events.fates.as_slice(), id);
+        let turns = self.server.due(self.tick)?;
+        let turns = turns.as_slice();
+        let first = room_for(self.flight.as_slice(), turns.len())?;
+        reserve_both(&mut self.flight, &mut self.kept, turns.len())?;
         let tick = self.tick;
-        let flown = Flown {
-            from: Origin::Server,
-            tick,
-            packet,
-            fate,
-        };
-        let what = What::Again {
-            number: session.number,
-            id,
-        };
-        push_both(&mut self.flight, &mut self.kept, flown, Kept { tick, what })?;
-        self.server.put(sent_again(session, tick));
+        let packets = self.server.tick(tick)?;
+        push_turns(&mut self.kept, turns, tick, first);
+        let fates = self.events.fates();
+        push_packets(&mut self.flight, fates, Origin::Server, tick, packets);
         Ok(())
     }
 
-    /// The next session whose block is due ends.
-    pub(crate) fn end(&mut self, session: Sending) -> Result<(), NoMemory>
-        requires served { self.old.to_server ≡ [] }
-        requires next { IsNext self.old.config self.old.server self.old.tick session }
-        requires spent { self.old.config.tries ≤ session.sends }
-        ensures ok { OnOk result (Passes self.old self.new (steps.End session.number ∷ [])) }
-        ensures less { OnOk result (length (dues self.new.config self.new.tick self.new.server) < length (dues self.old.config self.old.tick self.old.server)) }
-        ensures served { self.new.to_server ≡ self.old.to_server }
+    /// A receive would need a tick past the last one.
+    pub(crate) fn fail(&mut self) -> Result<(), NoMemory>
+        requires late { self.old.tick ≡ last_tick }
+        requires ready { Rests self.old }
+        ensures ok { OnOk result (Fails self.old self.new) }
+        ensures rests { OnOk result (Rests self.new) }
         ensures err { OnErr result (self.new ≡ self.old) }
         ensures tick { self.new.tick ≡ self.old.tick }
         ensures handed { self.new.handed ≡ self.old.handed }
+        ensures rose { OnOk result (Rose self.old.faults self.new.faults) }
+        ensures later { self.old.faults ≤ self.new.faults }
     {
         let tick = self.tick;
-        let number = session.number;
-        let what = What::Ended { number };
+        let what = What::Failed;
         self.kept.push(Kept { tick, what })?;
-        self.server.end(number);
+        self.faults = self.faults.saturating_add(1);
         Ok(())
     }
 
@@ -165,18 +157,18 @@ impl Segment {
         Ok(packet)
     }
 
-    /// Time goes on by one tick, and what is due at it is found.
+    /// Time goes on by one tick, strangers send what they send at it, and what is due at it is found.
     pub(crate) fn pass(&mut self) -> Result<(), NoMemory>
         requires early { self.old.tick < last_tick }
         requires ready { Rests self.old }
         requires got { self.old.to_client ≡ [] }
-        ensures ok { OnOk result (Passes self.old self.new (Tick ∷ [])) }
+        ensures ok { OnOk result (Advances self.old self.new) }
         ensures tick { OnOk result (self.new.tick ≡ self.old.tick + 1) }
         ensures err { OnErr result (self.new ≡ self.old) }
         ensures handed { self.new.handed ≡ self.old.handed }
     {
         let tick = self.tick + 1;
-        let fates = self.events.fates.as_slice();
+        let fates = self.events.fates();
         let flight = self.flight.as_slice();
         let to_server = due_ids(
             self.alloc,
@@ -194,6 +186,12 @@ impl Segment {
             flight,
             tick,
         )?;
+        let strays = self.events.strays_at(self.alloc, tick)?;
+        let count = strays.as_slice().len();
+        let first = room_for(flight, count)?;
+        reserve_both(&mut self.flight, &mut self.kept, count)?;
+        push_strays(&mut self.kept, count, tick, first);
+        push_packets(&mut self.flight, fates, Origin::Stranger, tick, strays);
         self.tick = tick;
         self.to_server = to_server;
         self.to_client = to_client;

@@ -1,17 +1,14 @@
 //! Time goes on until a packet comes to the client.
-ghost use Rattle.std.specs.Prelude.{◌≡◌, ◌⊎◌, ◌+◌, ◌-◌, ◌^◌, ◌≤◌, ◌<◌, [], length, min, max, true, OnOk, OnErr, IfOk, IfSome, List, Some, None, Ok, Err};
-ghost use Rattle.sd_outside.specs.Causes.{Rose};
+ghost use Rattle.std.specs.Prelude.{◌≡◌, ◌⊎◌, ◌+◌, ◌-◌, ◌^◌, ◌≤◌, ◌<◌, [], min, max, true, OnOk, OnErr, IfOk, IfSome, List, Some, None, Ok, Err};
 ghost use Rattle.sd_link.specs.Link.{Moves, Receives, LinkCause, Counts, last_tick, IsReached};
 ghost use Rattle.sd_link.specs.Steps.{Step};
 ghost use Rattle.sd_link.specs.declared.link.LinkError.TheVariants as refused;
 ghost use Rattle.sd_segment.specs.Segment.{history_of, text_drained, Rests};
-ghost use Rattle.sd_segment.specs.Passing.{Advances, AllServes, HandsOut, TakesTurn, WentOn};
-ghost use Rattle.sd_server.specs.Server.{dues, IsNext};
+ghost use Rattle.sd_segment.specs.Passing.{Advances, AllServes, HandsOut, WentOn};
 
 use crate::segment::Segment;
 use sd_link::LinkError;
 use sd_outside::{NoMemory, Packet};
-use sd_server::Sending;
 
 const LAST_TICK: u64 = 1 << 62;
 
@@ -48,25 +45,6 @@ impl Segment {
         Ok(())
     }
 
-    /// A session whose block is due sends it again, or ends.
-    pub(crate) fn take_turn(&mut self, session: Sending) -> Result<(), NoMemory>
-        requires served { self.old.to_server ≡ [] }
-        requires next { IsNext self.old.config self.old.server self.old.tick session }
-        ensures ok { OnOk result (TakesTurn self.old self.new) }
-        ensures less { OnOk result (length (dues self.new.config self.new.tick self.new.server) < length (dues self.old.config self.old.tick self.old.server)) }
-        ensures served { self.new.to_server ≡ self.old.to_server }
-        ensures err { OnErr result (self.new ≡ self.old) }
-        ensures tick { self.new.tick ≡ self.old.tick }
-        ensures handed { self.new.handed ≡ self.old.handed }
-    {
-        if self.is_spent(&session) {
-            self.end(session)?;
-            return Ok(());
-        }
-        self.send_again(session)?;
-        Ok(())
-    }
-
     /// Each session whose block is due at this tick has its turn, once the server was given all that is due to it.
     pub(crate) fn send_due(&mut self) -> Result<(), NoMemory>
         requires served { self.old.to_server ≡ [] }
@@ -75,8 +53,8 @@ impl Segment {
         ensures tick { self.new.tick ≡ self.old.tick }
         ensures handed { self.new.handed ≡ self.old.handed }
     {
-        while let Some(session) = self.next_due() {
-            self.take_turn(session)?;
+        if self.is_due() {
+            self.take_turns()?;
         }
         Ok(())
     }
@@ -109,16 +87,6 @@ impl Segment {
         self.pass()?;
         self.settle()?;
         Ok(())
-    }
-
-    /// Counts a fault.
-    pub(crate) fn fail(&mut self)
-        requires late { self.old.tick ≡ last_tick }
-        ensures same { self.new ≡ record self.old { faults = self.new.faults } }
-        ensures later { self.old.faults ≤ self.new.faults }
-        ensures rose { Rose self.old.faults self.new.faults }
-    {
-        self.faults = self.faults.saturating_add(1);
     }
 
     /// From now on nothing is sent and nothing is received.
@@ -154,8 +122,10 @@ impl Segment {
                 return Ok(None);
             }
             if tick >= LAST_TICK {
-                self.fail();
-                return Err(LinkError::Failed);
+                match self.fail() {
+                    Ok(()) => return Err(LinkError::Failed),
+                    Err(NoMemory) => return Err(LinkError::NoMemory),
+                }
             }
             match self.advance() {
                 Ok(()) => {}

@@ -1,5 +1,5 @@
 use Rattle.std.proofs.Common.{ℕ, List, subst}
-use Rattle.sd_boot.specs.Play.{GainsSome}
+use Rattle.sd_streams.specs.Writing.{GainsSome}
 use Rattle.sd_boot.specs.Images.{Answers}
 use Rattle.sd_boot.proofs.Carrying.{carried, all_read}
 use Rattle.sd_boot.proofs.Imaging.{alike, within_limit, refused_word, no_image_word}

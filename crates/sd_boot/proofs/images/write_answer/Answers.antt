@@ -1,6 +1,6 @@
 use Rattle.std.proofs.Common.{ℕ, List, subst}
 use Rattle.std.proofs.lemmas.Result.{err_from_is_err_and}
-use Rattle.sd_boot_chain.specs.Writing.{GainsFront}
+use Rattle.sd_streams.specs.Writing.{GainsFront}
 use Rattle.sd_boot.proofs.Imaging.{cut_answer, not_the_source}
 use Rattle.sd_boot.proofs.images.write_answer.Goals as goal
 

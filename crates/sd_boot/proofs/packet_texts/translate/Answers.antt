@@ -1,5 +1,5 @@
 use Rattle.std.proofs.Common.{ℕ, List, subst}
-use Rattle.sd_boot.specs.Play.{GainsSome}
+use Rattle.sd_streams.specs.Writing.{GainsSome}
 use Rattle.sd_boot.specs.PacketTexts.{Translates}
 use Rattle.sd_boot.proofs.Translating.{translated, read_whole}
 use Rattle.sd_boot.proofs.packet_texts.translate.Goals as goal

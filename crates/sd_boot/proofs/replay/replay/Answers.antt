@@ -1,5 +1,5 @@
 use Rattle.std.proofs.Common.{ℕ, List, subst}
-use Rattle.sd_boot.specs.Play.{GainsSome}
+use Rattle.sd_streams.specs.Writing.{GainsSome}
 use Rattle.sd_boot.specs.Replay.{Replays}
 use Rattle.sd_boot.proofs.Replaying.{replayed, read_whole}
 use Rattle.sd_boot.proofs.replay.replay.Goals as goal

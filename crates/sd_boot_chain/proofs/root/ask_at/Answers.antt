@@ -9,5 +9,6 @@ pub returns-in-Err-clause-told : goal.returns-in-Err-clause-told
 returns-in-Err-clause-told g c =
     let old = g.L.Link.told c.args.link.now in
     let new = g.L.Link.told c.call.new.link in
-    no_answer old new c.args.caller.now c.args.dst c.args.asked.now c.in-Err.error
-    (subst (λ r. IfOk (asked_as r) (λ came. Moves old new (CameOf c.args.caller.now c.args.dst c.args.asked.now came))) c.in-Err.is c.call.ensures.told) c.call.ensures.lasts
+    let what = g.Q.Question.ask c.args.question.now in
+    no_answer g.Q.Question.shown old new c.args.caller.now c.args.dst what c.in-Err.error
+    (subst (λ r. IfOk (asked_as r) (λ came. Moves old new (CameOf c.args.caller.now c.args.dst what g.Q.Question.shown came))) c.in-Err.is c.call.ensures.told) c.call.ensures.lasts

@@ -1,9 +1,11 @@
-use Rattle.std.proofs.Common.{List, ℕ, Result, Ok, Err, ◌∙◌, ap, subst, arith}
+use Rattle.std.proofs.Common.{List, ℕ, Result, Ok, Err, sym, ◌∙◌, ap, subst, arith}
 use Rattle.std.specs.Prelude.{codes}
 use Rattle.std.proofs.lemmas.Result.{err_from_is_err_and}
 use Rattle.sd_link.specs.Link.{Moves, IsSettledBy}
 use Rattle.sd_config.specs.declared.stage.Stage.TheVariants as stage
-use Rattle.sd_rpc_retry.specs.Lasting.{most_asking_ticks}
+use Rattle.sd_rpc_retry.specs.Lasting.{Fails, most_asking_ticks}
+use Rattle.sd_rpc_retry.proofs.Failing.{fails_then}
+use Rattle.sd_boot_chain.specs.Failing.{call_fails}
 use Rattle.sd_rpc_retry.proofs.Lasting.{lasts_then}
 use Rattle.sd_claims.specs.Booting.{whoami_call, getfile_call, getport_call}
 use Rattle.sd_boot_chain.specs.Durations.{most_calls_ticks}
@@ -83,3 +85,20 @@ returns-clause-told g c =
 pub returns-clause-lasts : goal.returns-clause-lasts
 returns-clause-lasts g c =
     lasts_then _ _ _ most_asking_ticks 128000 most_calls_ticks (omega arith) c.whoami.ensures.lasts (lasts_then _ _ _ most_asking_ticks most_asking_ticks 128000 (omega arith) c.getfile.ensures.lasts c.getport.ensures.lasts)
+
+pub returns-in_err-server-clause-fails : goal.returns-in_err-server-clause-fails
+unfolding error_of
+returns-in_err-server-clause-fails g c =
+    let p = err_from_is_err_and c.from_residual-in_err-server.result c.from_residual-in_err-server.ensures.1 in
+    subst (λ (r : Result ℕ Unanswered). Fails (call_fails r) (g.L.Link.told c.args.link.now) (g.L.Link.told c.getfile.new.link)) (sym (p.1 ∙ ap error_of p.2))
+    (fails_then _ _ _ _ c.in_ok-named.ensures.fails c.in_err-server.ensures.fails)
+
+pub returns-in_err-port-clause-fails : goal.returns-in_err-port-clause-fails
+unfolding error_of
+returns-in_err-port-clause-fails g c =
+    let p = err_from_is_err_and c.from_residual-in_err-port.result c.from_residual-in_err-port.ensures.1 in
+    subst (λ (r : Result ℕ Unanswered). Fails (call_fails r) (g.L.Link.told c.args.link.now) (g.L.Link.told c.getport.new.link)) (sym (p.1 ∙ ap error_of p.2))
+    (fails_then _ _ _ _ c.in_ok-named.ensures.fails (fails_then _ _ _ _ c.in_ok-server.ensures.fails c.in_err-port.ensures.fails))
+
+pub returns-clause-fails : goal.returns-clause-fails
+returns-clause-fails g c = fails_then _ _ _ _ c.in_ok-named.ensures.fails (fails_then _ _ _ _ c.in_ok-server.ensures.fails c.in_ok-port.ensures.fails)

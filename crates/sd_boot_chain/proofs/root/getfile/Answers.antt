@@ -5,6 +5,5 @@ use Rattle.sd_boot_chain.proofs.root.getfile.Goals as goal
 
 pub returns-clause-told : goal.returns-clause-told
 returns-clause-told g c =
-    let told = c.in-Getfile in
     placed_by (g.L.Link.told c.args.link.now) (g.L.Link.told c.ask_at.new.link) c.args.caller.now c.portmapper-dst.result (portmapper c.args.named.from) (asks.Getfile c.args.named.client c.args.key)
-    c.in_ok-answer.answer told.from told.server told.ip told.path c.portmapper-dst.ensures told.is c.in_ok-answer.ensures.told
+    c.in_ok-located.located c.portmapper-dst.ensures c.in_ok-located.ensures.told

@@ -6,6 +6,5 @@ use Rattle.sd_boot_chain.proofs.root.whoami.Goals as goal
 
 pub returns-clause-told : goal.returns-clause-told
 returns-clause-told g c =
-    let told = c.in-Whoami in
     named_by (g.L.Link.told c.args.link.now) (g.L.Link.told c.ask_at.new.link) c.args.caller.now c.portmapper.result (portmapper (2 ^ 32 - 1)) (asks.Whoami c.args.caller.now.ip)
-    c.in_ok-answer.answer told.from told.client told.domain told.router c.portmapper.ensures told.is c.in_ok-answer.ensures.told
+    c.in_ok-named.named c.portmapper.ensures c.in_ok-named.ensures.told

@@ -1,12 +1,12 @@
-use Rattle.std.proofs.Common.{◌≡◌, ◌⊎◌, inl, inr, ap, subst, ◌∙◌}
+use Rattle.std.proofs.Common.{◌≡◌, ◌⊎◌, inr, ap, sym, subst, ◌∙◌, Bool}
 use Rattle.std.proofs.lemmas.Bool.{false≢true}
 use Rattle.std.specs.Result.{is_err, result_err}
 use Rattle.std.specs.Prelude.{None, IsOk}
 use Rattle.sd_outside.proofs.MakesLaws.{plan_then}
 use Rattle.sd_stable_disk.specs.Files.{files, may_hold, held_since, IsEither}
-use Rattle.sd_nfs_server.specs.Acts.{IsFault}
+use Rattle.sd_nfs_server.specs.Acts.{IsFault, LeavesOneDoubt}
 use Rattle.sd_nfs_server.specs.declared.acts.Acted.{Acted}
-use Rattle.sd_nfs_server.proofs.Storing.{leaves_then, leaves_weaker, kept_or, down_where, none_damaged, place_damaged}
+use Rattle.sd_nfs_server.proofs.Storing.{leaves_then, leaves_weaker, kept_or, down_where, none_damaged, place_damaged, not_refused, was_refused}
 use Rattle.sd_nfs_server.proofs.acts.act_write.Goals as goal
 
 pub returns-in-Ok-write-clause-crash : goal.returns-in-Ok-write-clause-crash
@@ -71,11 +71,20 @@ returns-in-Err-clause-moments g c =
     (λ left. kept_or 0 at bytes (may_hold g.D.Disk.may_leave old left) (files seen old) left) c.rise.ensures.moments
 
 pub returns-in-Err-DiskFault-clause-apart : goal.returns-in-Err-DiskFault-clause-apart
-returns-in-Err-DiskFault-clause-apart g c = λ failed. inr (λ left held. subst (λ old. IsEither 0 c.args.at c.args.bytes.now old left) c.rise.ensures.files (c.write.ensures.crash left held))
+returns-in-Err-DiskFault-clause-apart g c = λ failed.
+    let no_refusal = not_refused c.args.store.now.up c.write.new.self.refusal (λ down. c.write.ensures.refusal ∙ c.rise.ensures.refusal down ∙ ap result_err c.in-Ok.is) in
+    subst (λ (b : Bool). LeavesOneDoubt g.D.Disk.seen g.D.Disk.may_leave 0 c.args.at c.args.bytes.now c.args.store.now c.write.new.self b) (sym no_refusal)
+    (λ left held. subst (λ old. IsEither 0 c.args.at c.args.bytes.now old left) c.rise.ensures.files (c.write.ensures.crash left held))
 
 pub returns-in-Err-clause-apart : goal.returns-in-Err-clause-apart
-returns-in-Err-clause-apart g c =
-    λ failed. inl (down_where c.args.store.now.up (λ up. false≢true (subst IsOk c.in-Err.is (c.rise.ensures.kept up).1)), c.rise.ensures.files, c.rise.ensures.crash)
+returns-in-Err-clause-apart g c = λ failed.
+    let down = down_where c.args.store.now.up (λ up. false≢true (subst IsOk c.in-Err.is (c.rise.ensures.kept up).1)) in
+    let refused = was_refused c.args.store.now.up c.rise.new.store.refusal c.in-Err.error down (c.rise.ensures.refusal down ∙ ap result_err c.in-Err.is) in
+    subst (λ (b : Bool). LeavesOneDoubt g.D.Disk.seen g.D.Disk.may_leave 0 c.args.at c.args.bytes.now c.args.store.now c.rise.new.store b) (sym refused)
+    (down, c.rise.ensures.files, c.rise.ensures.crash)
+
+pub returns-in-Ok-write-clause-came_up : goal.returns-in-Ok-write-clause-came_up
+returns-in-Ok-write-clause-came_up g c = λ done. not_refused c.args.store.now.up c.write.new.self.refusal (λ down. c.write.ensures.refusal ∙ c.rise.ensures.refusal down ∙ ap result_err c.in-Ok.is)
 
 pub returns-in-Ok-write-clause-damaged : goal.returns-in-Ok-write-clause-damaged
 returns-in-Ok-write-clause-damaged g c = none_damaged _ _ (λ down. c.write.ensures.refusal ∙ c.rise.ensures.refusal down ∙ ap result_err c.in-Ok.is)

@@ -1,19 +1,24 @@
-use Rattle.std.proofs.Common.{◌≡◌, ◌+◌, ◌*◌, ◌≤◌, refl, sym, ◌∙◌, subst, arith}
-use Rattle.sd_link.specs.Link.{Moves, IsNow}
+use Rattle.sd_rpc_retry.specs.declared.asking.Heard.{Heard}
+use Rattle.std.proofs.Common.{Ok, ◌≡◌, ◌+◌, ◌*◌, ◌≤◌, refl, sym, ◌∙◌, subst, arith}
+use Rattle.sd_link.specs.Link.{Moves, IsNow, IsReached}
 use Rattle.sd_link.specs.Parts.{ticks_in}
 use Rattle.sd_link.proofs.Histories.{moves_not, moves_then, moves_weaker}
-use Rattle.sd_rpc_retry.specs.declared.asking.Heard.TheVariants.{Found, Nothing, Flood}
+use Rattle.sd_rpc_retry.specs.declared.asking.Heard.TheVariants.{Found, Nothing, Flood, Fault}
 use Rattle.sd_rpc_retry.specs.declared.asking.Asked.TheVariants as asked
-use Rattle.sd_rpc_retry.specs.Lasting.{Lasts, most_asking_ticks}
+use Rattle.sd_rpc_retry.specs.Lasting.{Lasts, Fails, most_asking_ticks}
 use Rattle.sd_rpc_retry.specs.Asking.{Tried, IsAsked, IsNotFound, IsFound}
 use Rattle.sd_rpc_retry.proofs.Lasting.{lasts_none, lasts_then, lasts_more}
-use Rattle.sd_rpc_retry.proofs.Trying.{Vain, vain_none, vain_more, answered, flooded, timed_out}
+use Rattle.sd_rpc_retry.proofs.Trying.{Vain, vain_none, vain_more, answered, flooded, failed, timed_out}
 use Rattle.std.specs.Prelude.{Result}
 use Rattle.std.proofs.lemmas.Result.{err_from_is_err_and}
 use Rattle.sd_outside.specs.declared.errors.NoMemory.{NoMemory}
 use Rattle.sd_rpc_retry.specs.declared.asking.Asked.{Asked}
-use Rattle.sd_rpc_retry.specs.Sending.{WaitedIn, IsStillButFor, IsTallied}
+use Rattle.sd_rpc_retry.specs.Sending.{WaitedIn, IsStillButFor, IsTallied, heard_fails, asked_fails, SendsOnly, IsAsking}
+use Rattle.std.specs.Prelude.{IfSome}
+use Rattle.sd_rpc_retry.proofs.Sent.{only_none, only_then}
+use Rattle.sd_rpc_retry.proofs.Lawfulness.{lawful_from}
 use Rattle.sd_rpc_retry.proofs.Tallying.{Counted, counted_none, moves_more, moves_answer, moves_flood, moves_fault, moves_wanting, moves_timeout}
+use Rattle.sd_rpc_retry.proofs.Failing.{fails_none, fails_then}
 use Rattle.sd_rpc_retry.proofs.asking.ask_counting.Goals as goal
 
 pub loop-count-init : goal.loop-count-init
@@ -23,9 +28,13 @@ loop-count-init g c = record {
   sends = refl;
   same = refl;
   lasts = lasts_none _ 0;
+  asks = only_none (IsAsking c.args.request.now (g.H.Listener.hearing c.args.listener.now)) _;
+  lawful = λ some. absurd (omega (arith, some));
+  fails = fails_none _;
   waited = omega arith;
   began = λ some. absurd (omega (arith, some));
   ended = λ some. absurd (omega (arith, some));
+  low = omega arith;
   counts = omega arith;
   faults = omega arith;
   drained = refl;
@@ -101,9 +110,17 @@ loop-count-preserved g c =
       sends = refl;
       same = c.in_ok-found.ensures.same (subst IsNotFound (sym c.in-Nothing.is) tt) ∙ c.loop-count.invariant.same;
       lasts = lasts_then _ _ _ (c.loop-count.count * 1000) 1000 ((c.loop-count.count + 1) * 1000) (omega arith) c.loop-count.invariant.lasts (subst (λ o. Lasts 1000 o (g.L.Link.told c.try_once.new.link)) c.now-tally.ensures.told c.try_once.ensures.goes);
+      asks = only_then (IsAsking c.args.request.now (g.H.Listener.hearing c.args.listener.now)) _ _ _ c.loop-count.invariant.asks
+          (subst (λ o. SendsOnly (IsAsking c.args.request.now (g.H.Listener.hearing c.args.listener.now)) o (g.L.Link.told c.try_once.new.link)) c.now-tally.ensures.told
+          (subst (λ l. SendsOnly (IsAsking c.args.request.now (g.H.Listener.hearing l)) (g.L.Link.told c.now-tally.new.self) (g.L.Link.told c.try_once.new.link)) c.loop-count.invariant.same c.try_once.ensures.sends));
+      lawful = λ some. lawful_from _ _ (λ old part. ticks_in part ≤ c.loop-count.count * 1000) c.loop-count.invariant.lasts (subst (λ o. IfSome o IsReached) c.now-tally.ensures.told c.now-tally.ensures.world);
+      fails = fails_then _ _ _ 0 c.loop-count.invariant.fails
+          (subst (λ o. Fails 0 o (g.L.Link.told c.try_once.new.link)) c.now-tally.ensures.told
+          (subst (λ (e : Heard g.row.H-Found.Denot). Fails (heard_fails (Ok e)) (g.L.Link.told c.now-tally.new.self) (g.L.Link.told c.try_once.new.link)) c.in-Nothing.is c.in_ok-found.ensures.fails));
       waited = omega (arith, c.loop-count.invariant.waited, c.now-tally.ensures.later, waited);
       began = λ some. omega (arith, c.loop-count.invariant.waited, c.now-tally.ensures.later, c.now-tally.ensures.value);
       ended = λ some. omega (arith, c.now-tally.ensures.value, c.try_once.ensures.later);
+      low = c.now-tally.ensures.bound;
       counts = omega (arith, c.loop-count.invariant.counts, c.now-tally.ensures.handed, c.try_once.ensures.counts);
       faults = omega (arith, c.try_once.ensures.faults, c.now-tally.ensures.faults, c.loop-count.invariant.faults);
       drained = c.try_once.ensures.drained ∙ c.now-tally.ensures.drained ∙ c.loop-count.invariant.drained;
@@ -121,10 +138,15 @@ returns-clause-told g c =
 
 pub returns-in-Fault-clause-told : goal.returns-in-Fault-clause-told
 returns-in-Fault-clause-told g c =
-    moves_weaker _ _ (λ old part. ticks_in part ≤ most_asking_ticks)
-    (IsAsked c.args.request.now (g.H.Listener.hearing c.args.listener.now) (g.H.Listener.shows c.try_once.new.listener) c.args.tries c.args.wait asked.Fault)
-    (λ old part short. record { came = tt; ended = λ silent was. tt })
-    (returns-in-Fault-clause-lasts g c)
+    let request = c.args.request.now in
+    let h = g.H.Listener.hearing c.args.listener.now in
+    let shows = g.H.Listener.shows c.try_once.new.listener in
+    let told =
+    subst (λ l. Moves (g.L.Link.told c.loop-count.link) (g.L.Link.told c.try_once.new.link) (Tried request (g.H.Listener.hearing l) shows c.args.wait Fault)) c.loop-count.invariant.same
+    (subst (λ e. Moves (g.L.Link.told c.loop-count.link) (g.L.Link.told c.try_once.new.link) (Tried request (g.H.Listener.hearing c.loop-count.listener) shows c.args.wait e)) c.in-Fault.is (subst (λ o. Moves o (g.L.Link.told c.try_once.new.link) (Tried request (g.H.Listener.hearing c.loop-count.listener) shows c.args.wait c.in_ok-found.field-0)) c.now-tally.ensures.told c.in_ok-found.ensures.told)) in
+    moves_then _ _ _ (Vain request h c.args.wait c.loop-count.count) (Tried request h shows c.args.wait Fault) (IsAsked request h shows c.args.tries c.args.wait asked.Fault)
+    (λ a b xs ys goes v t. failed request h shows c.args.wait c.loop-count.count a b xs ys goes v c.args.tries c.loop-count-test.true t)
+    c.loop-count.invariant.moves told
 
 pub returns-in-Found-clause-tallied : goal.returns-in-Found-clause-tallied
 returns-in-Found-clause-tallied g c =
@@ -176,3 +198,64 @@ returns-clause-tallied g c =
     let h = g.H.Listener.hearing c.args.listener.now in
     moves_timeout _ request h c.args.wait c.loop-count.tally _ _
     (subst (λ n. Moves (g.L.Link.told c.args.link.now) (g.L.Link.told c.loop-count.link) (Counted request h c.args.wait n c.loop-count.tally.last)) (sym c.loop-count.invariant.sends) c.loop-count.invariant.counted)
+
+pub returns-in-Found-clause-lawful : goal.returns-in-Found-clause-lawful
+returns-in-Found-clause-lawful g c = λ some. lawful_from _ _ (λ old part. ticks_in part ≤ c.loop-count.count * 1000) c.loop-count.invariant.lasts (subst (λ o. IfSome o IsReached) c.now-tally.ensures.told c.now-tally.ensures.world)
+
+pub returns-in-Flood-clause-lawful : goal.returns-in-Flood-clause-lawful
+returns-in-Flood-clause-lawful g c = λ some. lawful_from _ _ (λ old part. ticks_in part ≤ c.loop-count.count * 1000) c.loop-count.invariant.lasts (subst (λ o. IfSome o IsReached) c.now-tally.ensures.told c.now-tally.ensures.world)
+
+pub returns-in-Fault-clause-lawful : goal.returns-in-Fault-clause-lawful
+returns-in-Fault-clause-lawful g c = λ some. lawful_from _ _ (λ old part. ticks_in part ≤ c.loop-count.count * 1000) c.loop-count.invariant.lasts (subst (λ o. IfSome o IsReached) c.now-tally.ensures.told c.now-tally.ensures.world)
+
+pub returns-clause-lawful : goal.returns-clause-lawful
+returns-clause-lawful g c = λ some. c.loop-count.invariant.lawful (omega (arith, some, c.loop-count-test.false))
+
+pub returns-in-Found-clause-fails : goal.returns-in-Found-clause-fails
+returns-in-Found-clause-fails g c =
+    fails_then _ _ _ 0 c.loop-count.invariant.fails
+    (subst (λ o. Fails 0 o (g.L.Link.told c.try_once.new.link)) c.now-tally.ensures.told
+    (subst (λ (e : Heard g.row.H-Found.Denot). Fails (heard_fails (Ok e)) (g.L.Link.told c.now-tally.new.self) (g.L.Link.told c.try_once.new.link)) c.in-Found.is c.in_ok-found.ensures.fails))
+
+pub returns-in-Flood-clause-fails : goal.returns-in-Flood-clause-fails
+returns-in-Flood-clause-fails g c =
+    fails_then _ _ _ 0 c.loop-count.invariant.fails
+    (subst (λ o. Fails 0 o (g.L.Link.told c.try_once.new.link)) c.now-tally.ensures.told
+    (subst (λ (e : Heard g.row.H-Found.Denot). Fails (heard_fails (Ok e)) (g.L.Link.told c.now-tally.new.self) (g.L.Link.told c.try_once.new.link)) c.in-Flood.is c.in_ok-found.ensures.fails))
+
+pub returns-in-Fault-clause-fails : goal.returns-in-Fault-clause-fails
+returns-in-Fault-clause-fails g c =
+    fails_then _ _ _ 1 c.loop-count.invariant.fails
+    (subst (λ o. Fails 1 o (g.L.Link.told c.try_once.new.link)) c.now-tally.ensures.told
+    (subst (λ (e : Heard g.row.H-Found.Denot). Fails (heard_fails (Ok e)) (g.L.Link.told c.now-tally.new.self) (g.L.Link.told c.try_once.new.link)) c.in-Fault.is c.in_ok-found.ensures.fails))
+
+pub returns-in_err-found-clause-fails : goal.returns-in_err-found-clause-fails
+returns-in_err-found-clause-fails g c =
+    let p = err_from_is_err_and c.from_residual.result c.from_residual.ensures.1 in
+    subst (λ (r : Result (Asked g.row.H-Found.Denot) NoMemory). Fails (asked_fails r) (g.L.Link.told c.args.link.now) (g.L.Link.told c.try_once.new.link)) (sym p.1)
+    (fails_then _ _ _ 0 c.loop-count.invariant.fails
+    (subst (λ o. Fails 0 o (g.L.Link.told c.try_once.new.link)) c.now-tally.ensures.told c.in_err-found.ensures.fails))
+
+pub returns-in-Found-clause-sends : goal.returns-in-Found-clause-sends
+returns-in-Found-clause-sends g c =
+    only_then (IsAsking c.args.request.now (g.H.Listener.hearing c.args.listener.now)) _ _ _ c.loop-count.invariant.asks
+    (subst (λ o. SendsOnly (IsAsking c.args.request.now (g.H.Listener.hearing c.args.listener.now)) o (g.L.Link.told c.try_once.new.link)) c.now-tally.ensures.told
+    (subst (λ l. SendsOnly (IsAsking c.args.request.now (g.H.Listener.hearing l)) (g.L.Link.told c.now-tally.new.self) (g.L.Link.told c.try_once.new.link)) c.loop-count.invariant.same c.try_once.ensures.sends))
+
+pub returns-in-Flood-clause-sends : goal.returns-in-Flood-clause-sends
+returns-in-Flood-clause-sends g c =
+    only_then (IsAsking c.args.request.now (g.H.Listener.hearing c.args.listener.now)) _ _ _ c.loop-count.invariant.asks
+    (subst (λ o. SendsOnly (IsAsking c.args.request.now (g.H.Listener.hearing c.args.listener.now)) o (g.L.Link.told c.try_once.new.link)) c.now-tally.ensures.told
+    (subst (λ l. SendsOnly (IsAsking c.args.request.now (g.H.Listener.hearing l)) (g.L.Link.told c.now-tally.new.self) (g.L.Link.told c.try_once.new.link)) c.loop-count.invariant.same c.try_once.ensures.sends))
+
+pub returns-in-Fault-clause-sends : goal.returns-in-Fault-clause-sends
+returns-in-Fault-clause-sends g c =
+    only_then (IsAsking c.args.request.now (g.H.Listener.hearing c.args.listener.now)) _ _ _ c.loop-count.invariant.asks
+    (subst (λ o. SendsOnly (IsAsking c.args.request.now (g.H.Listener.hearing c.args.listener.now)) o (g.L.Link.told c.try_once.new.link)) c.now-tally.ensures.told
+    (subst (λ l. SendsOnly (IsAsking c.args.request.now (g.H.Listener.hearing l)) (g.L.Link.told c.now-tally.new.self) (g.L.Link.told c.try_once.new.link)) c.loop-count.invariant.same c.try_once.ensures.sends))
+
+pub returns-in_err-found-clause-sends : goal.returns-in_err-found-clause-sends
+returns-in_err-found-clause-sends g c =
+    only_then (IsAsking c.args.request.now (g.H.Listener.hearing c.args.listener.now)) _ _ _ c.loop-count.invariant.asks
+    (subst (λ o. SendsOnly (IsAsking c.args.request.now (g.H.Listener.hearing c.args.listener.now)) o (g.L.Link.told c.try_once.new.link)) c.now-tally.ensures.told
+    (subst (λ l. SendsOnly (IsAsking c.args.request.now (g.H.Listener.hearing l)) (g.L.Link.told c.now-tally.new.self) (g.L.Link.told c.try_once.new.link)) c.loop-count.invariant.same c.try_once.ensures.sends))

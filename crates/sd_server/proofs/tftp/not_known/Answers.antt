@@ -1,5 +1,5 @@
 use Rattle.sd_tftp.specs.declared.packet.TftpPacket.TheVariants.{Rrq, Wrq, Block, Ack}
-use Rattle.sd_server.proofs.Datagrams.{not_known_as}
+use Rattle.sd_server.proofs.Transfers.{not_known_as}
 use Rattle.sd_server.proofs.tftp.not_known.Goals as goal
 
 pub returns-in_ok-refusal-in-Ack : goal.returns-in_ok-refusal-in-Ack

@@ -1,10 +1,12 @@
-use Rattle.std.proofs.Common.{subst}
-use Rattle.sd_link.specs.Lawful.{IsFrontOf}
-use Rattle.sd_link.specs.Link.{IsAtRest}
+use Rattle.std.proofs.Common.{◌≡◌, ◌⊎◌, subst}
+use Rattle.sd_config.specs.Plan.{plan_of}
+use Rattle.sd_link.specs.Lawful.{IsFrontOf, IsOrderly, FailsAsPlanned}
+use Rattle.sd_link.specs.Link.{IsAtRest, last_tick}
 use Rattle.sd_link.specs.Steps.{whole_record}
 use Rattle.sd_link.specs.Printing.{record_text}
 use Rattle.sd_segment.specs.Inside.{view_of}
 use Rattle.sd_segment.specs.Segment.{SegmentView, history_of, text_drained, Rests}
+use Rattle.sd_segment.proofs.Orderly.{orderly_of, receives_of}
 use Rattle.sd_segment.proofs.Passing.{drained_front, rests_of}
 use Rattle.sd_segment.proofs.segment.Segment.facts.Goals as goal
 
@@ -15,3 +17,11 @@ returns-clause-drained c =
 pub returns-clause-rests : goal.returns-clause-rests
 returns-clause-rests c =
     subst (λ (v : SegmentView). Rests v → IsAtRest (history_of v)) c.self.view_is (rests_of (view_of c.self.inside) c.self.invariant)
+
+pub returns-clause-orderly : goal.returns-clause-orderly
+returns-clause-orderly c =
+    subst (λ (v : SegmentView). IsOrderly v.config (plan_of v.events) (history_of v).steps) c.self.view_is (orderly_of (view_of c.self.inside) c.self.invariant)
+
+pub returns-clause-receives : goal.returns-clause-receives
+returns-clause-receives c =
+    subst (λ (v : SegmentView). FailsAsPlanned v.config (plan_of v.events) (history_of v).steps ⊎ (v.tick ≡ last_tick)) c.self.view_is (receives_of (view_of c.self.inside) c.self.invariant)

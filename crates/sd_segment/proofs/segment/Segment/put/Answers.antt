@@ -19,7 +19,7 @@ invariant_of-self-2 c =
     let room : length s.flight < last_tick = subst (λ (n : ℕ). n < last_tick) same c.in_ok-id.ensures.room in
     let ready : Rests s = subst Rests (sym c.self.view_is) c.requires.ready in
     let found : delays_of s.events.fates fate ≡ fate_in s.events.fates (length s.flight) =
-    fate_found c.as_slice-2.result.now s.events.fates id (length s.flight) fate c.as_slice-2.ensures here c.place_of-fate.ensures in
+    fate_found c.fates.result.now s.events.fates id (length s.flight) fate c.fates.ensures here c.place_of-fate.ensures in
     subst IsSound (sym (sent_is s c.args.packet fate c.push_both.new.flight.items c.push_both.new.kept.items id c.in_ok-push_both.ensures.flight c.in_ok-push_both.ensures.kept here))
     (sound_sent s c.args.packet fate c.self.invariant ready room found)
 

@@ -5,7 +5,7 @@ use Rattle.sd_link.specs.Link.{Moves, Receives}
 use Rattle.sd_link.specs.Steps.{Step, History}
 use Rattle.sd_segment.specs.Segment.{SegmentView, history_of}
 use Rattle.sd_segment.specs.Passing.{Waits, HandsOut}
-use Rattle.sd_segment.proofs.Waiting.{waits_more, receives_packet, waits_if, receives_none, receives_err}
+use Rattle.sd_segment.proofs.Waiting.{waits_more, receives_packet, waits_if, receives_none, receives_err, receives_failed}
 use Rattle.sd_segment.proofs.segment.Segment.receive.Goals as goal
 
 pub returns-in-Ok-Some-clause-told : goal.returns-in-Ok-Some-clause-told
@@ -30,18 +30,14 @@ pub returns-in-Err-clause-told : goal.returns-in-Err-clause-told
 returns-in-Err-clause-told c =
     let w = c.waiting.invariant.waits in
     let v = subst (λ (s : SegmentView). Waits c.args.until c.args.self.now s w.0) (sym c.in-Err.ensures.err) w.1 in
-    receives_err c.args.until c.args.self.now c.hand_out.new.self w.0 NoMemory v
+    receives_err c.args.until c.args.self.now c.hand_out.new.self w.0 v
 
--- a fault is no part of the history
-pub returns-then-tick-ge-LAST_TICK-clause-told : goal.returns-then-tick-ge-LAST_TICK-clause-told
-returns-then-tick-ge-LAST_TICK-clause-told c =
+pub returns-in-Ok-clause-told : goal.returns-in-Ok-clause-told
+returns-in-Ok-clause-told c =
     let w = c.waiting.invariant.waits in
-    let old = c.args.self.now in
     let h = subst (λ (o : Option Packet). HandsOut c.waiting.self c.hand_out.new.self o) c.in-Ok-None.field-0-is c.in-Ok-None.ensures.got in
-    let v = still_waits c.args.until old c.waiting.self c.hand_out.new.self w.0 h w.1 in
-    let same : history_of c.fail.new.self ≡ history_of c.hand_out.new.self = ap history_of c.fail.ensures.same in
-    subst (λ (n : History). Moves (Some (history_of old)) (Some n) (Receives c.args.until (Err Failed))) (sym same)
-    (receives_err c.args.until old c.hand_out.new.self w.0 Failed v)
+    let v = still_waits c.args.until c.args.self.now c.waiting.self c.hand_out.new.self w.0 h w.1 in
+    receives_failed c.args.until c.args.self.now c.hand_out.new.self c.fail.new.self w.0 v c.in-Ok.ensures.ok
 
 pub returns-in-Err-advance-clause-told : goal.returns-in-Err-advance-clause-told
 returns-in-Err-advance-clause-told c =
@@ -49,14 +45,14 @@ returns-in-Err-advance-clause-told c =
     let h = subst (λ (o : Option Packet). HandsOut c.waiting.self c.hand_out.new.self o) c.in-Ok-None.field-0-is c.in-Ok-None.ensures.got in
     let v = still_waits c.args.until c.args.self.now c.waiting.self c.hand_out.new.self w.0 h w.1 in
     let more = waits_if c.args.until c.args.self.now c.hand_out.new.self c.advance.new.self w.0 v (omega (arith, c.if-tick-until.false, c.tick-tick.ensures.value)) c.advance.ensures.moves in
-    receives_err c.args.until c.args.self.now c.advance.new.self more.0 NoMemory more.1
+    receives_err c.args.until c.args.self.now c.advance.new.self more.0 more.1
 
 pub waiting-preserved : goal.waiting-preserved
 waiting-preserved c =
     let w = c.waiting.invariant.waits in
     let h = subst (λ (o : Option Packet). HandsOut c.waiting.self c.hand_out.new.self o) c.in-Ok-None.field-0-is c.in-Ok-None.ensures.got in
     let v = still_waits c.args.until c.args.self.now c.waiting.self c.hand_out.new.self w.0 h w.1 in
-    let e = c.in-Ok.ensures in
+    let e = c.in-Ok-advance.ensures in
     record {
       waits = waits_more c.args.until c.args.self.now c.hand_out.new.self c.advance.new.self w.0 v (omega (arith, c.if-tick-until.false, c.tick-tick.ensures.value)) e.passed;
       bounded = e.passed.1.bounded;
@@ -65,3 +61,11 @@ waiting-preserved c =
       faults = e.passed.1.faults ∙ ap (λ (v : SegmentView). v.faults) h.0 ∙ c.waiting.invariant.faults;
       handed = c.advance.ensures.handed ∙ ap (λ (v : SegmentView). v.handed) h.0 ∙ c.waiting.invariant.handed;
     }
+
+pub returns-in-Err-fail-clause-told : goal.returns-in-Err-fail-clause-told
+returns-in-Err-fail-clause-told c =
+    let w = c.waiting.invariant.waits in
+    let h = subst (λ (o : Option Packet). HandsOut c.waiting.self c.hand_out.new.self o) c.in-Ok-None.field-0-is c.in-Ok-None.ensures.got in
+    let v = still_waits c.args.until c.args.self.now c.waiting.self c.hand_out.new.self w.0 h w.1 in
+    receives_err c.args.until c.args.self.now c.fail.new.self w.0
+    (subst (λ (s : SegmentView). Waits c.args.until c.args.self.now s w.0) (sym c.in-Err-fail.ensures.err) v)

@@ -1,11 +1,12 @@
-use Rattle.std.proofs.Common.{◌∙◌}
-use Rattle.sd_segment.proofs.Waiting.{serves_turn}
+use Rattle.std.proofs.Common.{◌≡◌, sym, ◌∙◌}
+use Rattle.sd_segment.proofs.SessionTurns.{rest_where}
+use Rattle.sd_segment.proofs.Waiting.{serves_turns}
 use Rattle.sd_segment.proofs.segment.Segment.send_due.Goals as goal
 
-pub loop-session-preserved : goal.loop-session-preserved
-loop-session-preserved c = record {
-  moves = serves_turn c.args.self.now c.loop-session.self c.take_turn.new.self c.loop-session.invariant.moves c.in_ok-take_turn.ensures.ok;
-  served = c.take_turn.ensures.served ∙ c.loop-session.invariant.served;
-  tick = c.take_turn.ensures.tick ∙ c.loop-session.invariant.tick;
-  handed = c.take_turn.ensures.handed ∙ c.loop-session.invariant.handed;
-}
+pub returns-else-is_due-clause-ready : goal.returns-else-is_due-clause-ready
+returns-else-is_due-clause-ready c =
+    let v = c.args.self.now in
+    record { served = c.requires.served; sessions = rest_where v.config v.server v.flight v.tick (sym c.is_due.ensures ∙ c.if-is_due.false) }
+
+pub returns-in_ok-take_turns-clause-moves : goal.returns-in_ok-take_turns-clause-moves
+returns-in_ok-take_turns-clause-moves c = serves_turns c.args.self.now c.take_turns.new.self c.in_ok-take_turns.ensures.ok

@@ -1,4 +1,0 @@
-//! Acts on a store.
-
-mod stores;
-mod untold;

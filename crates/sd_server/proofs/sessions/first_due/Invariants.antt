@@ -1,9 +1,0 @@
-use Rattle.std.proofs.Common.{◌≡◌, drop}
-use Rattle.std.specs.List.{find}
-use Rattle.sd_services.specs.Sessions.{is_due}
-use Rattle.sd_server.specs.Server.{session_of}
-use Rattle.sd_server.proofs.sessions.first_due.Given as goal
-
-abbrev pub invariant-loop-session : goal.invariant-loop-session
-invariant-loop-session l =
-    find (λ s. is_due l.config l.tick (session_of l.config s)) (drop l.session-index l.sessions) ≡ find (λ s. is_due l.config l.tick (session_of l.config s)) l.sessions

@@ -1,0 +1,12 @@
+use Rattle.std.proofs.Common.{◌≡◌, ◌-◌, ◌^◌, length}
+use Rattle.sd_streams.specs.Reading.{Gave}
+use Rattle.sd_streams.proofs.reading.read_all.Given as goal
+
+abbrev pub invariant-reading : goal.invariant-reading
+invariant-reading g l = record {
+  gave : Gave (g.S.Source.left l.initial.source) (g.S.Source.left l.source) l.text;
+  calm : g.S.Source.faults l.source ≡ g.S.Source.faults l.initial.source;
+}
+
+abbrev pub decreases-reading : goal.decreases-reading
+decreases-reading g l = 2 ^ 64 - length l.text

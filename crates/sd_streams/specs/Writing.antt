@@ -1,0 +1,20 @@
+-- A writing that was cut short.
+use Rattle.std.specs.Prelude.{◌≡◌, ℕ, List, ◌++◌, Option, Some, None}
+use Rattle.sd_outside.specs.Streams.{Gains}
+
+-- the front is a prefix of the whole
+abbrev pub IsFrontOf : {A : Type 0} → List A → List A → Type 0
+IsFrontOf {A} front whole = (rest : List A) × (front ++ rest ≡ whole)
+
+-- the sink gained a prefix of the bytes
+abbrev pub GainsFront : Option (List ℕ) → Option (List ℕ) → List ℕ → Type 0
+GainsFront old new bytes = (front : List ℕ) × IsFrontOf front bytes × Gains old new front
+
+-- the sink gained bytes of which P holds
+abbrev pub GainsSome : Option (List ℕ) → Option (List ℕ) → (List ℕ → Type 0) → Type 0
+GainsSome old new P = (out : List ℕ) × Gains old new out × P out
+
+-- Where the source tells the text, the sink gained bytes that have to do with it as P says.
+abbrev pub Writes : Option (List ℕ) → Option (List ℕ) → Option (List ℕ) → (List ℕ → List ℕ → Type 0) → Type 0
+Writes None old new P = Unit {0}
+Writes (Some text) old new P = GainsSome old new (P text)
