@@ -1,0 +1,9 @@
+pub mod Lists
+pub mod Ordered
+pub mod Drawing
+pub mod Looking
+pub mod Advancing
+pub mod Splitting
+pub mod Joining
+pub mod Settling
+pub mod Beginning
