@@ -1,0 +1,11 @@
+pub mod Cutting
+pub mod OneLine
+pub mod WholeLine
+pub mod Reading
+pub mod Summing
+pub mod PartsCut
+pub mod Sizes
+pub mod Framing
+pub mod Shortness
+pub mod OneRun
+pub mod Drawing

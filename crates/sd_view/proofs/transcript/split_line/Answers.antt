@@ -1,0 +1,18 @@
+use Rattle.std.proofs.Common.{◌+◌, length, sym, arith, add-one}
+use Rattle.std.proofs.lemmas.List.{take_rest, drop_all}
+use Rattle.sd_text.proofs.CutLemmas.{place_is, no_place}
+use Rattle.sd_view.proofs.Cutting.{first_line, last_line}
+use Rattle.sd_view.proofs.transcript.split_line.Goals as goal
+
+pub returns-in-Some-clause-lines : goal.returns-in-Some-clause-lines
+returns-in-Some-clause-lines c =
+    let text = c.args.text.now in
+    let place = place_is 10 text c.in-Some.at (sym (c.in-Some.ensures)) in
+    let first = first_line text (omega (arith, place.0, place.1)) in
+    rw (take_rest text (c.in-Some.at + 1), place.0, add-one) first
+
+pub returns-in-None-clause-lines : goal.returns-in-None-clause-lines
+returns-in-None-clause-lines c =
+    let text = c.args.text.now in
+    let past = no_place 10 text (sym (c.in-None.ensures)) in
+    rw (take_rest text (length text), drop_all (length text) text (omega arith)) (last_line text c.requires past)

@@ -1,0 +1,6 @@
+pub mod Lines
+pub mod Order
+pub mod Transcript
+pub mod Internet
+pub mod Capture
+pub mod Views
