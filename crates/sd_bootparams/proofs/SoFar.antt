@@ -7,7 +7,8 @@ use Rattle.sd_bootparams.specs.declared.params.Why.{Why}
 use Rattle.sd_bootparams.specs.declared.draft.Next.{Next}
 use Rattle.sd_bootparams.specs.declared.draft.Next.TheVariants as next
 use Rattle.sd_bootparams.specs.declared.draft.Draft.{Draft}
-use Rattle.sd_bootparams.specs.File.{Text, lines, is_full, joined_from, Part, parts, adding, fault, IsFaultless, HasRefusal, IsFile, IsRefused}
+use Rattle.sd_outside.specs.Lines.{lines}
+use Rattle.sd_bootparams.specs.File.{Text, is_full, joined_from, Part, parts, adding, fault, IsFaultless, HasRefusal, IsFile, IsRefused}
 use Rattle.sd_bootparams.specs.LineByLine.{in_place, after_words, after_line, line_parts, parts_from, Says, blank}
 use Rattle.sd_bootparams.proofs.Follow.{adding_more, adding_none, faultless_none, faultless_cons, faultless_append, refused_before, refused_after}
 use Rattle.sd_bootparams.proofs.Turns.{piece_parts, next_piece, turn_piece, next_line, from_start}

@@ -5,7 +5,8 @@ use Rattle.std.specs.List.{onto_first}
 use Rattle.sd_bootparams.specs.Contents.{Contents}
 use Rattle.sd_bootparams.specs.declared.draft.Next.{Next}
 use Rattle.sd_bootparams.specs.declared.draft.Next.TheVariants as next
-use Rattle.sd_bootparams.specs.File.{Text, lines, joined_from, Part, parts, nothing, adding, IsFaultless, HasRefusal}
+use Rattle.sd_outside.specs.Lines.{lines}
+use Rattle.sd_bootparams.specs.File.{Text, joined_from, Part, parts, nothing, adding, IsFaultless, HasRefusal}
 use Rattle.sd_bootparams.specs.LineByLine.{after_line, after_lines, line_parts, parts_from, fed, file_of, is_one_line, AreLines, BeginsBlank, NextLineStands, NextLineRefused, StandingIsFile}
 use Rattle.sd_bootparams.proofs.Follow.{adding_more, faultless_none, faultless_append, refused_after}
 use Rattle.sd_bootparams.proofs.Turns.{next_line, from_start}

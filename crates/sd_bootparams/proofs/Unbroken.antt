@@ -6,7 +6,8 @@ use Rattle.std.specs.List.{filter, slice_split, onto_first, before_first}
 use Rattle.std.specs.Cmp.Lexicographic.{pointwise}
 use Rattle.std.proofs.lemmas.Bool.{eqb-true}
 use Rattle.std.proofs.lemmas.List.Sums.{take_while-cons}
-use Rattle.sd_bootparams.specs.File.{Text, lines, goes_on, bare, is_blank, is_full, words_of, Word, line_words, onto_joined, joined_from}
+use Rattle.sd_outside.specs.Lines.{lines}
+use Rattle.sd_bootparams.specs.File.{Text, goes_on, bare, is_blank, is_full, words_of, Word, line_words, onto_joined, joined_from}
 use Rattle.sd_bootparams.specs.FileLaws.{unbroken, texts, BackslashIsASpace}
 use Rattle.sd_bootparams.proofs.Turns.{texts_on_line}
 

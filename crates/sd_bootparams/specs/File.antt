@@ -1,8 +1,9 @@
 -- The bootparams file, a profile of bootparams(5): its lines, its words, what it says, and its first refusal. A text is the list of
 -- its bytes.
 use Rattle.std.specs.Prelude.{◌≡◌, ℕ, ◌+◌, ◌-◌, ◌==◌, ◌&&◌, ◌||◌, not, nat_lt, nat_le, Bool, true, false, if◌then◌else◌, List, [], ◌∷◌, ◌++◌, length, take, map, Option, Some, None}
-use Rattle.std.specs.List.{slice_split, onto_first, filter, position_or_len, before_first, after_first, list_all, list_any, ends_with}
+use Rattle.std.specs.List.{slice_split, filter, position_or_len, before_first, after_first, list_all, list_any, ends_with}
 use Rattle.std.specs.Cmp.Lexicographic.{pointwise}
+use Rattle.sd_outside.specs.Lines.{lines, without_feed}
 use Rattle.sd_bootparams.specs.Layout.{name_limit, key_limit, path_limit}
 use Rattle.sd_bootparams.specs.declared.params.Entry.{Entry}
 use Rattle.sd_bootparams.specs.Contents.{Contents}
@@ -17,12 +18,7 @@ abbrev pub flat : {X : Type 0} → List (List X) → List X
 flat [] = []
 flat (xs ∷ more) = xs ++ flat more
 
--- ---- lines
-
--- the lines of a file, each with its line feed, which the last may lack
-abbrev pub lines : Text → List Text
-lines [] = []
-lines (b ∷ text) = if b == 10 then (b ∷ []) ∷ lines text else onto_first b (lines text)
+-- ---- lines that go on
 
 -- A backslash before the line feed stands, with it, for a space: the line goes on in the next.
 abbrev pub goes_on : Text → Bool
@@ -30,7 +26,7 @@ goes_on line = ends_with (λ a b. a == b) line (92 ∷ 10 ∷ [])
 
 -- the line without its line feed, and without the backslash before that
 abbrev pub bare : Text → Text
-bare line = if goes_on line then take (length line - 2) line else before_first (λ b. b == 10) line
+bare line = if goes_on line then take (length line - 2) line else without_feed line
 
 -- ---- words
 

@@ -3,7 +3,8 @@ use Rattle.std.specs.Prelude.{◌≡◌, ℕ, ◌==◌, ◌&&◌, if◌then◌el
 use Rattle.std.specs.List.{before_first}
 use Rattle.sd_bootparams.specs.Contents.{Contents}
 use Rattle.sd_bootparams.specs.declared.params.Why.{Why}
-use Rattle.sd_bootparams.specs.File.{Text, lines, flat, words_of, Word, joined_from, item_fault, key_of, server_of, path_of, IsFile, IsRefused}
+use Rattle.sd_outside.specs.Lines.{lines, without_feed}
+use Rattle.sd_bootparams.specs.File.{Text, flat, words_of, Word, joined_from, item_fault, key_of, server_of, path_of, IsFile, IsRefused}
 
 -- A file says one thing.
 abbrev pub OneReading : Type 0
@@ -37,7 +38,7 @@ texts words = map (λ w. w.text) words
 -- A backslash before a line feed stands, with it, for a space: the words of the joined lines are those of the lines of the text
 -- that has these spaces.
 abbrev pub BackslashIsASpace : Type 0
-BackslashIsASpace = (text : Text) → map texts (joined_from 1 (lines text)) ≡ map (λ line. words_of (before_first (λ b. b == 10) line)) (lines (unbroken text))
+BackslashIsASpace = (text : Text) → map texts (joined_from 1 (lines text)) ≡ map (λ line. words_of (without_feed line)) (lines (unbroken text))
 
 -- An item without a fault is its key, `=`, its server, `:` and its path.
 abbrev pub ItemsAreTheirParts : Type 0

@@ -7,10 +7,8 @@ ghost use Rattle.sd_bootparams.specs.declared.params.ParamsError.TheVariants as 
 ghost use Rattle.sd_bootparams.specs.Judging.{Judges, JudgesPiece, Adds, IsParamsError};
 
 use crate::params::{Entry, Params, ParamsError, Why};
-use crate::words::{
-    Pieces, bare, begins_comment, cut_once, goes_on, has, is_text, same, split_line,
-};
-use sd_outside::{ByteList, NoMemory};
+use crate::words::{Pieces, bare, begins_comment, cut_once, goes_on, has, is_text, same};
+use sd_outside::{ByteList, NoMemory, split_line};
 use std::alloc::Global;
 
 /// What the next word is.

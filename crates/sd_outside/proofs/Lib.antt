@@ -1,4 +1,6 @@
 mod ChangeLaws
+pub mod Cutting
+mod FirstPlace
 mod HistoryLaws
 mod RefreshLaws
 mod SurfaceLaws

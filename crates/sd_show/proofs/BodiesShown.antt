@@ -1,5 +1,5 @@
 -- The body of a message, from the calls that were seen, and the place of its refusal.
-use Rattle.std.proofs.Common.{◌≡◌, inr, ℕ, ◌+◌, ◌-◌, ◌<◌, ◌≤◌, ◌^◌, List, [], ◌∷◌, ◌++◌, length, Option, Some, None, refl, sym, ap, subst, ◌∙◌, arith, codes}
+use Rattle.std.proofs.Common.{◌≡◌, inr, ℕ, ◌+◌, ◌-◌, ◌<◌, ◌≤◌, ◌^◌, List, ◌++◌, length, Option, Some, None, refl, sym, ap, subst, ◌∙◌, arith, codes, append_assoc}
 use Rattle.std.specs.Prelude.{IsFalse}
 use Rattle.sd_outside.specs.declared.packet.Addr.{Addr}
 use Rattle.sd_xdr.specs.declared.error.MsgError.{MsgError}
@@ -13,7 +13,11 @@ use Rattle.sd_rpc_msg.specs.declared.message.Outcome.TheVariants.{Success, ProgU
 use Rattle.sd_rpc_msg.specs.declared.message.Message.{Message}
 use Rattle.sd_rpc_msg.specs.declared.message.Message.TheVariants.{Asked, Answered}
 use Rattle.sd_rpc_msg.specs.Layout.{message, message_value, outcome_value}
-use Rattle.sd_text.specs.Texts.{Text, addr_text}
+use Rattle.sd_text.specs.Texts.{Text}
+use Rattle.sd_xdr.specs.Kind as xdr
+use Rattle.sd_text.specs.Kind.{addr, addr_value}
+use Rattle.sd_text.specs.Grammar as texts
+use Rattle.sd_show.specs.Lines.{carried, line, datagram_line}
 use Rattle.sd_show.specs.declared.error.ShowError.{ShowError}
 use Rattle.sd_show.specs.declared.error.ShowError.TheVariants.{Bad, NoMemory}
 use Rattle.sd_show.specs.declared.procedures.Procedure.{Procedure}
@@ -21,14 +25,11 @@ use Rattle.sd_show.specs.declared.procedures.Known.{Known}
 use Rattle.sd_show.specs.declared.calls.Heard.{Heard}
 use Rattle.sd_show.specs.Programs.{numbers, args_kind, results_kind}
 use Rattle.sd_show.specs.Calls.{procedure_of, answered}
-use Rattle.sd_show.specs.Parts.{Part, exact, parts_text}
-use Rattle.sd_show.specs.Packing.{spaced}
-use Rattle.sd_show.specs.Messages.{Body, bare, read_as, AreResults, IsOutcomeBody, IsBody, datagram_parts}
+use Rattle.sd_show.specs.Messages.{Body, bare, read_as, AreResults, IsOutcomeBody, IsBody}
 use Rattle.sd_show.specs.Saying.{OnRefusal, AreResultsOf, IsBodyOf, IsMessageBody, IsBodyRefusedOf, IsMessageRefused}
 use Rattle.sd_show.specs.Shown.{is_tftp}
 use Rattle.sd_show.specs.Refused.{message_error, AreResultsRefused, IsBodyRefused, HasNoBody}
-use Rattle.sd_show.specs.Showing.{IsKnownOf, IsAskedOf, IsMessageNotShown, results_length, content_length, moved, PlaceFits}
-use Rattle.sd_show.proofs.Spaced.{parts_behind}
+use Rattle.sd_show.specs.Showing.{IsKnownOf, IsAskedOf, IsMessageNotShown, results_length, content_length, moved, PlaceFits, datagram_head}
 use Rattle.sd_show.proofs.Places.{PlaceWithin, moves, bytes_in, holds}
 use Rattle.sd_show.proofs.ReadWhole.{args_usual, results_usual}
 
@@ -150,6 +151,11 @@ refusal_handed seen src dst content m asked (messages.AuthLong at len) other rea
 
 -- ---- what stands behind the addresses of a datagram
 
-pub behind_head : (src dst : Addr) (head behind : Text) (ps : List Part) → head ≡ parts_text (datagram_parts src dst []) → behind ≡ head ++ spaced ps → behind ≡ parts_text (datagram_parts src dst ps)
-behind_head src dst head behind ps begun added =
-    added ∙ ap (λ (t : Text). t ++ spaced ps) begun ∙ sym (parts_behind (exact (codes "udp")) (exact (addr_text src) ∷ exact (addr_text dst) ∷ []) ps)
+pub behind_head : (src dst : Addr) (head behind : Text) (x : xdr.Value) → head ≡ datagram_head src dst → behind ≡ head ++ texts.writes carried x → behind ≡ texts.writes line (datagram_line src dst x)
+unfolding texts.writes
+behind_head src dst head behind x begun added =
+    let a = texts.writes addr (addr_value src) in
+    let b = texts.writes addr (addr_value dst) in
+    let c = texts.writes carried x in
+    added ∙ ap (λ (t : Text). t ++ c) begun
+    ∙ ap (λ (t : Text). codes "udp " ++ t) (append_assoc a (codes " " ++ (b ++ codes " ")) c ∙ ap (λ (t : Text). a ++ (codes " " ++ t)) (append_assoc b (codes " ") c))

@@ -34,17 +34,18 @@ use Rattle.sd_show.specs.declared.procedures.Known.TheVariants as known
 use Rattle.sd_show.specs.declared.calls.Heard.{Heard}
 use Rattle.sd_show.specs.Programs.{numbers, IsUnknown, all_known, args_kind, results_kind}
 use Rattle.sd_show.specs.Calls.{procedure_of, answered}
-use Rattle.sd_show.specs.Messages.{Body, bare, read_as, no_body, AreResults, IsOutcomeBody, IsBody, message_parts, datagram_parts}
-use Rattle.sd_show.specs.Parts.{parts_text, frame_parts}
-use Rattle.sd_show.specs.Shown.{is_tftp, file_parts, Shows}
+use Rattle.sd_show.specs.Messages.{Body, bare, read_as, no_body, AreResults, IsOutcomeBody, IsBody}
+use Rattle.sd_text.specs.Grammar as texts
+use Rattle.sd_show.specs.Lines.{line, carries_file, carries_message, datagram_line, frame_line}
+use Rattle.sd_show.specs.Shown.{is_tftp, Shows}
 use Rattle.sd_show.specs.Refused.{message_error, file_error, frame_error, AreResultsRefused, HasNoBody, HasNoText}
 use Rattle.sd_show.specs.Laws.{EitherWay}
 use Rattle.sd_show.proofs.Names.{NoneBefore, none_begins, none_goes_on, none_ends}
 use Rattle.sd_show.proofs.Places.{moves}
 use Rattle.sd_show.proofs.ReadWhole.{args_usual, results_usual}
 use Rattle.sd_show.proofs.BodiesShown.{from_start}
-use Rattle.sd_show.proofs.FormAgain.{ValueFits}
-use Rattle.sd_show.proofs.PartsAgain.{Sound, read_fits}
+use Rattle.sd_show.proofs.ValuesFit.{Sound}
+use Rattle.sd_show.proofs.WrittenForm.{ValueFits, read_fits}
 
 -- ---- each value of an RPC message is that of a message
 
@@ -269,7 +270,7 @@ IsEitherWay seen packet = ((text : Text) × Shows seen packet text) ⊎ ((e : Sh
 
 file_way : (seen : List Heard) (src dst : Addr) (content : List ℕ) → IsTrue (is_tftp src dst) → IsBytes content → IsEitherWay seen (Udp src dst content)
 file_way seen src dst content port fits = elim (files.either_way content fits) [
-  | inl p ↦ inl (parts_text (datagram_parts src dst (file_parts p.0)), inl record { p = p.0; port = port; spells = p.1; means = refl })
+  | inl p ↦ inl (texts.writes line (datagram_line src dst (carries_file p.0)), inl record { p = p.0; port = port; spells = p.1; means = refl })
   | inr r ↦ inr (file_error r.0, inl record { r = r.0; port = port; refuses = r.1; means = refl })
 ]
 
@@ -279,14 +280,14 @@ message_way seen src dst content other sound = elim (xdr.either_way message cont
       let m = message_told x.0 (read_has_spelling whole message content x.0 x.1) in
       let reads : Reads whole message content (message_value m.0) = subst (λ (v : Value). Reads whole message content v) m.1 x.1 in
       elim (body_way seen src dst content m.0 record { other = other; reads = reads } (read_fits message content (message_value m.0) reads sound)) [
-        | inl b ↦ inl (parts_text (datagram_parts src dst (message_parts m.0 b.0)), inr record { m = m.0; b = b.0; other = other; reads = reads; body = b.1; means = refl })
+        | inl b ↦ inl (texts.writes line (datagram_line src dst (carries_message m.0 b.0)), inr record { m = m.0; b = b.0; other = other; reads = reads; body = b.1; means = refl })
         | inr e ↦ inr (e.0, inr (inr e.1))
       ]
   | inr r ↦ inr (message_error r.0, inr (inl record { r = r.0; other = other; refuses = r.1; means = refl }))
 ]
 
 frame_way : (seen : List Heard) (content : List ℕ) (r : Result RarpFrame RarpError) → r ≡ reading content → IsBytes content → IsEitherWay seen (Frame content)
-frame_way seen content (Ok f) e fits = inl (parts_text (frame_parts f), (f, frames.found content fits f (sym e), refl))
+frame_way seen content (Ok f) e fits = inl (texts.writes line (frame_line f), (f, frames.found content fits f (sym e), refl))
 frame_way seen content (Err r) e fits = inr (frame_error r, (r, sym e, refl))
 
 pub either_way : EitherWay

@@ -29,9 +29,10 @@ use Rattle.sd_show.specs.declared.calls.Heard.{Heard}
 use Rattle.sd_show.specs.declared.error.ShowError.{ShowError}
 use Rattle.sd_show.specs.Programs.{numbers, args_kind, results_kind}
 use Rattle.sd_show.specs.Calls.{procedure_of, answered}
-use Rattle.sd_show.specs.Parts.{frame_parts, parts_text}
-use Rattle.sd_show.specs.Messages.{Body, bare, read_as, AreArgs, AreResults, IsOutcomeBody, IsBody, message_parts, datagram_parts}
-use Rattle.sd_show.specs.Shown.{file_parts, ShowsFile, ShowsMessage}
+use Rattle.sd_text.specs.Grammar as texts
+use Rattle.sd_show.specs.Lines.{line, carries_file, carries_message, datagram_line, frame_line}
+use Rattle.sd_show.specs.Messages.{Body, bare, read_as, AreArgs, AreResults, IsOutcomeBody, IsBody}
+use Rattle.sd_show.specs.Shown.{ShowsFile, ShowsMessage}
 use Rattle.sd_show.specs.Refused.{message_error, file_error, frame_error, AreResultsRefused, IsBodyRefused, IsNoFile, IsNoMessage, HasNoBody}
 use Rattle.sd_show.specs.Laws.{OneText, NeverBoth, OneRefusal, OneTextRefusal}
 use Rattle.sd_show.proofs.OneKnown.{one_known}
@@ -91,17 +92,17 @@ Says seen src dst content text = ShowsFile src dst content text ⊎ ShowsMessage
 
 one_of : (seen : List Heard) (src dst : Addr) (content : List ℕ) (s t : Text) → Says seen src dst content s → Says seen src dst content t → s ≡ t
 one_of seen src dst content s t (inl f) (inl g) =
-    f.means ∙ ap (λ (p : TftpPacket). parts_text (datagram_parts src dst (file_parts p))) (tftp.one_packet content f.p g.p f.spells g.spells) ∙ sym g.means
+    f.means ∙ ap (λ (p : TftpPacket). texts.writes line (datagram_line src dst (carries_file p))) (tftp.one_packet content f.p g.p f.spells g.spells) ∙ sym g.means
 one_of seen src dst content s t (inl f) (inr n) = absurd (false≢true (sym n.other ∙ f.port))
 one_of seen src dst content s t (inr m) (inl g) = absurd (false≢true (sym m.other ∙ g.port))
 one_of seen src dst content s t (inr m) (inr n) =
     let same : m.m ≡ n.m = one_message content m.m n.m m.reads n.reads in
     let body : m.b ≡ n.b = one_body seen src dst n.m m.b n.b (subst (λ (x : Message). IsBody seen src dst x m.b) same m.body) n.body in
-    m.means ∙ (λ i. parts_text (datagram_parts src dst (message_parts (same i) (body i)))) ∙ sym n.means
+    m.means ∙ (λ i. texts.writes line (datagram_line src dst (carries_message (same i) (body i)))) ∙ sym n.means
 
 pub one_text : OneText
 one_text seen (Udp src dst content) s t h k = one_of seen src dst content s t h k
-one_text seen (Frame bytes) s t h k = h.2 ∙ ap (λ (f : RarpFrame). parts_text (frame_parts f)) (one_frame bytes h.0 k.0 h.1 k.1) ∙ sym k.2
+one_text seen (Frame bytes) s t h k = h.2 ∙ ap (λ (f : RarpFrame). texts.writes line (frame_line f)) (one_frame bytes h.0 k.0 h.1 k.1) ∙ sym k.2
 
 -- ---- no text
 

@@ -1,12 +1,12 @@
 -- The text of a packet is one of its written form, and a text of a packet is the one that it has, but for how its byte runs are split.
-use Rattle.std.proofs.Common.{◌≡◌, ◌⊎◌, ℕ, ◌≤◌, true, List, [], ◌∷◌, ◌++◌, length, replicate, Option, Some, None, refl, sym, ap, subst, ◌∙◌, arith, codes, inl, inr, cond}
+use Rattle.std.proofs.Common.{◌≡◌, ◌⊎◌, ℕ, ◌≤◌, true, List, [], ◌∷◌, ◌++◌, length, replicate, Option, Some, None, refl, sym, ap, subst, ◌∙◌, arith, inl, inr, cond}
 use Rattle.std.specs.Int.{w32, to_be_bytes}
 use Rattle.std.proofs.lemmas.Bool.{false≢true, eq-eqb}
 use Rattle.sd_outside.specs.Bytes.{IsBytes, IsMac}
 use Rattle.sd_outside.specs.declared.packet.Mac.{Mac}
 use Rattle.sd_outside.specs.declared.packet.Addr.{Addr}
 use Rattle.sd_outside.specs.declared.packet.Packet.TheVariants.{Frame, Udp}
-use Rattle.sd_xdr.specs.Kind.{whole}
+use Rattle.sd_xdr.specs.Kind.{whole, Value}
 use Rattle.sd_xdr.specs.Grammar.{Reads, writes}
 use Rattle.sd_xdr.proofs.Writes.{written_is_read}
 use Rattle.sd_rpc_msg.specs.declared.message.Reply as rpc
@@ -24,56 +24,25 @@ use Rattle.sd_rarp.specs.declared.frame.RarpFrame.{RarpFrame}
 use Rattle.sd_rarp.specs.declared.frame.RarpFrame.TheVariants.{Request, Reply}
 use Rattle.sd_rarp.specs.Frame.{fixed_part, Spells, frame_bytes, IsLaidOut}
 use Rattle.sd_rarp.proofs.Spelling.{nested, length-nested}
-use Rattle.sd_text.specs.Texts.{Text, mac_text, ip_text, addr_text}
+use Rattle.sd_text.specs.Texts.{Text}
+use Rattle.sd_text.specs.Grammar as texts
+use Rattle.sd_text.proofs.Writes as text_laws
 use Rattle.sd_text.specs.Packets.{AddrFits}
 use Rattle.sd_show.specs.declared.procedures.Procedure.{Procedure}
 use Rattle.sd_show.specs.declared.procedures.Known.{Known}
 use Rattle.sd_show.specs.declared.calls.Heard.{Heard}
-use Rattle.sd_show.specs.Words.{words}
-use Rattle.sd_show.specs.Parts.{Part, exact, mac_part, ip_part, kind_parts, frame_parts, parts_text, BeginWith}
+use Rattle.sd_show.specs.Lines.{line, carries_file, carries_message, datagram_line, frame_line}
 use Rattle.sd_show.specs.Programs.{numbers, args_kind, results_kind}
 use Rattle.sd_show.specs.Calls.{procedure_of, is_answered, answered}
-use Rattle.sd_show.specs.Messages.{Body, bare, read_as, AreArgs, IsOutcomeBody, IsBody, AreWrittenArgs, IsWrittenOutcome, IsWrittenBody, with_body, message_parts, datagram_parts}
-use Rattle.sd_show.specs.Shown.{file_parts, ShowsFile, ShowsMessage, Shows, IsFrame, PacksFile, PacksMessage, Packs, IsWrittenFile, IsWrittenMessage}
+use Rattle.sd_show.specs.Messages.{Body, bare, read_as, AreArgs, IsOutcomeBody, IsBody, AreWrittenArgs, IsWrittenOutcome, IsWrittenBody, with_body}
+use Rattle.sd_show.specs.Shown.{ShowsFile, ShowsMessage, Shows, IsFrame, PacksFile, PacksMessage, Packs, IsWrittenFile, IsWrittenMessage}
 use Rattle.sd_show.specs.Laws.{ShownIsPacked, IsSplitOf, PackedIsShown}
 use Rattle.sd_show.proofs.OneShown.{one_body, one_message, one_frame}
-use Rattle.sd_show.proofs.PlainTexts.{plain_mac, plain_ip}
-use Rattle.sd_show.proofs.FormWords.{Clear, clear-append, plain_clear}
-use Rattle.sd_show.proofs.PartsAgain.{IsClear, AreClear, parts_again, word_clear, Sound, front_bytes, back_bytes}
-use Rattle.sd_show.proofs.MessageAgain.{message_clear, datagram_clear, written_body, is_message, same_parts, message_long, file_clear, file_short}
+use Rattle.sd_show.proofs.ValuesFit.{Sound, front_bytes, back_bytes}
+use Rattle.sd_show.proofs.WrittenForm.{written_body, is_message, same_text, message_long, file_short}
+use Rattle.sd_show.proofs.TextsFit.{frame_line_fits, file_line_fits, message_line_fits}
 
 -- ---- frames
-
-mac_clear : (name : Text) (m : Mac) → Clear 0 name → IsMac m → IsClear (mac_part name m)
-mac_clear name m h is = clear-append 0 name (mac_text m) h (plain_clear 0 (mac_text m) (plain_mac m is))
-
-ip_clear : (name : Text) (ip : ℕ) → Clear 0 name → IsClear (ip_part name ip)
-ip_clear name ip h = clear-append 0 name (ip_text ip) h (plain_clear 0 (ip_text ip) (plain_ip ip))
-
-kind_clear : (f : RarpFrame) → IsFrame f → AreClear (kind_parts f)
-kind_clear (Request dst src sender target) is = (
-  word_clear (codes "request") refl,
-  (
-    mac_clear (codes "dst=") dst (word_clear (codes "dst=") refl) is.0,
-    (mac_clear (codes "src=") src (word_clear (codes "src=") refl) is.1, (mac_clear (codes "sender=") sender (word_clear (codes "sender=") refl) is.2, (mac_clear (codes "target=") target (word_clear (codes "target=") refl) is.3, tt))),
-  ),
-)
-kind_clear (Reply dst src sender sender_ip target target_ip) is = (
-  word_clear (codes "reply") refl,
-  (
-    mac_clear (codes "dst=") dst (word_clear (codes "dst=") refl) is.0,
-    (
-      mac_clear (codes "src=") src (word_clear (codes "src=") refl) is.1,
-      (
-        mac_clear (codes "sender=") sender (word_clear (codes "sender=") refl) is.2,
-        (
-          ip_clear (codes "sender_ip=") sender_ip (word_clear (codes "sender_ip=") refl),
-          (mac_clear (codes "target=") target (word_clear (codes "target=") refl) is.4, (ip_clear (codes "target_ip=") target_ip (word_clear (codes "target_ip=") refl), tt)),
-        ),
-      ),
-    ),
-  ),
-)
 
 -- the hardware addresses of a frame that bytes spell
 laid_macs : (opcode : ℕ) (dst src sender : Mac) (sender_ip : List ℕ) (target : Mac) (target_ip bytes : List ℕ) → IsBytes bytes → IsLaidOut opcode dst src sender sender_ip target target_ip bytes
@@ -134,32 +103,31 @@ frame_spells (Reply dst src sender sender_ip target target_ip) is = (
 
 -- ---- what is shown is packed
 
--- the text of a datagram's parts is read as these parts
-datagram_again : (src dst : Addr) (ps : List Part) (text : Text) → AddrFits src → AddrFits dst → AreClear ps → text ≡ parts_text (datagram_parts src dst ps) → BeginWith (datagram_parts src dst ps) (words text) []
-datagram_again src dst ps text from to clear e =
-    let again = parts_again (exact (codes "udp")) (exact (addr_text src) ∷ exact (addr_text dst) ∷ ps) (datagram_clear src dst ps from to clear) in
-    subst (λ (t : Text). BeginWith (datagram_parts src dst ps) (words t) []) (sym e) again
+-- the text that is written for a value is read as it
+read_again : (text : Text) (x : Value) → texts.HasText line x → text ≡ texts.writes line x → texts.Reads line text x
+read_again text x h e = subst (λ (t : Text). texts.Reads line t x) (sym e) (text_laws.written_is_read line x h)
 
 file_packs : (src dst : Addr) (content written : List ℕ) (text : Text) → AddrFits src → AddrFits dst → Sound content → ShowsFile src dst content text → IsWrittenFile src dst content written
-    → (length written ≤ 9216) × PacksFile (words text) src dst written
+    → (length written ≤ 9216) × PacksFile text src dst written
 file_packs src dst content written text from to s h w =
     let same : h.p ≡ w.p = file_laws.one_packet content h.p w.p h.spells w.spells in
-    let shown = h.means ∙ ap (λ (p : TftpPacket). parts_text (datagram_parts src dst (file_parts p))) same in
+    let shown : text ≡ texts.writes line (datagram_line src dst (carries_file w.p)) = h.means ∙ ap (λ (p : TftpPacket). texts.writes line (datagram_line src dst (carries_file p))) same in
     let limits = files.read_has_spelling content w.p w.spells in (
       omega (arith, ap length w.means, file_short content w.p w.spells, s.short),
-      record { p = w.p; port = w.port; range = limits.1; fits = limits.0; written = w.means; text = datagram_again src dst (file_parts w.p) text from to (file_clear content w.p w.spells s) shown },
+      record { p = w.p; port = w.port; range = limits.1; fits = limits.0; written = w.means; reads = read_again text (datagram_line src dst (carries_file w.p)) (file_line_fits src dst content w.p from to w.spells s) shown },
     )
 
 message_packs : (seen : List Heard) (src dst : Addr) (content written : List ℕ) (text : Text) → AddrFits src → AddrFits dst → Sound content → ShowsMessage seen src dst content text
-    → IsWrittenMessage seen src dst content written → (length written ≤ 9216) × PacksMessage (words text) src dst written
+    → IsWrittenMessage seen src dst content written → (length written ≤ 9216) × PacksMessage text src dst written
 message_packs seen src dst content written text from to s h w =
     let same : h.m ≡ w.m = one_message content h.m w.m h.reads w.reads in
     let body : h.b ≡ w.b = one_body seen src dst w.m h.b w.b (subst (λ (m : Message). IsBody seen src dst m h.b) same h.body) w.body in
     let spelled = one_spelling_of w.m content w.reads in
     let sound : Sound (writes message (message_value w.m)) = subst Sound spelled.0 s in
-    let clear = message_clear seen src dst w.m w.b spelled.1 w.body sound in
-    let shown : text ≡ parts_text (datagram_parts src dst (message_parts w.m w.b)) = h.means ∙ (λ i. parts_text (datagram_parts src dst (message_parts (same i) (body i)))) in
-    let read = datagram_again src dst (message_parts w.m w.b) text from to clear shown in (
+    let fits = message_line_fits seen src dst w.m w.b from to spelled.1 w.body sound in
+    let shown : text ≡ texts.writes line (datagram_line src dst (carries_message w.m w.b)) =
+    h.means ∙ (λ i. texts.writes line (datagram_line src dst (carries_message (same i) (body i)))) in
+    let read = read_again text (datagram_line src dst (carries_message w.m w.b)) fits shown in (
       omega (arith, ap length w.means, message_long seen src dst w.m w.b w.body, sound.short),
       record {
         m = with_body w.m w.b;
@@ -168,7 +136,7 @@ message_packs seen src dst content written text from to s h w =
         is = is_message w.m w.b spelled.1;
         body = written_body seen src dst w.m w.b w.body;
         written = w.means;
-        text = subst (λ (ps : List Part). BeginWith (datagram_parts src dst ps) (words text) []) (sym (same_parts w.m w.b)) read;
+        reads = subst (λ (x : Value). texts.Reads line text (datagram_line src dst x)) (sym (same_text w.m w.b)) read;
       },
     )
 
@@ -185,10 +153,9 @@ shown_is_packed seen (Udp src dst content) written text fits h w =
 shown_is_packed seen (Frame bytes) written text fits h w =
     let f = w.0 in
     let same = one_frame bytes h.0 f h.1 w.1 in
-    let shown : text ≡ parts_text (frame_parts f) = h.2 ∙ ap (λ (g : RarpFrame). parts_text (frame_parts g)) same in
     let is = frame_is bytes f fits.0 w.1 in
-    let again = parts_again (exact (codes "rarp")) (kind_parts f) (word_clear (codes "rarp") refl, kind_clear f is) in
-    subst (Packs text) (sym w.2) (f, record { is = is; written = refl; text = subst (λ (t : Text). BeginWith (frame_parts f) (words t) []) (sym shown) again })
+    let shown : text ≡ texts.writes line (frame_line f) = h.2 ∙ ap (λ (g : RarpFrame). texts.writes line (frame_line g)) same in
+    subst (Packs text) (sym w.2) (f, record { is = is; written = refl; reads = read_again text (frame_line f) (frame_line_fits f is) shown })
 
 -- ---- what is packed is shown
 
@@ -223,21 +190,25 @@ body_read : (src dst : Addr) (m : Message) (b : Body) → IsWrittenBody m b → 
 body_read src dst (Asked c) b h = ([], args_read (procedure_of c) c.args b h)
 body_read src dst (Answered r) b h = outcome_answered src dst r r.outcome b h
 
-datagram_shown : (src dst : Addr) (content : List ℕ) (text : Text) → PacksFile (words text) src dst content ⊎ PacksMessage (words text) src dst content
+-- what a text spells has the written text
+splits : (text : Text) (x : Value) → texts.Reads line text x → IsSplitOf text (texts.writes line x)
+splits text x r = record { value = x; reads = r; written = refl }
+
+datagram_shown : (src dst : Addr) (content : List ℕ) (text : Text) → PacksFile text src dst content ⊎ PacksMessage text src dst content
     → (seen : List Heard) × (shown : Text) × Shows seen (Udp src dst content) shown × IsSplitOf text shown
 datagram_shown src dst content text (inl h) =
-    let parts = datagram_parts src dst (file_parts h.p) in
+    let x = datagram_line src dst (carries_file h.p) in
     let spells : tftp.Spells content h.p = subst (λ (b : List ℕ). tftp.Spells b h.p) (sym h.written) ((files.written_is_read h.p h.p h.fits h.range).1 refl) in
-    ([], parts_text parts, inl record { p = h.p; port = h.port; spells = spells; means = refl }, record { parts = parts; read = h.text; written = refl })
+    ([], texts.writes line x, inl record { p = h.p; port = h.port; spells = spells; means = refl }, splits text x h.reads)
 datagram_shown src dst content text (inr h) =
-    let parts = datagram_parts src dst (message_parts h.m h.b) in
+    let x = datagram_line src dst (carries_message h.m h.b) in
     let reads : Reads whole message content (message_value h.m) = subst (λ (b : List ℕ). Reads whole message b (message_value h.m)) (sym h.written) ((written_is_read_again h.m h.m h.is).1 refl) in
     let body = body_read src dst h.m h.b h.body in
-    (body.0, parts_text parts, inr record { m = h.m; b = h.b; other = h.other; reads = reads; body = body.1; means = refl }, record { parts = parts; read = h.text; written = refl })
+    (body.0, texts.writes line x, inr record { m = h.m; b = h.b; other = h.other; reads = reads; body = body.1; means = refl }, splits text x h.reads)
 
 pub packed_is_shown : PackedIsShown
 packed_is_shown text (Udp src dst content) h = datagram_shown src dst content text h.3
 packed_is_shown text (Frame bytes) h =
-    let parts = frame_parts h.0 in
+    let x = frame_line h.0 in
     let spells : Spells bytes h.0 = subst (λ (b : List ℕ). Spells b h.0) (sym h.1.written) (frame_spells h.0 h.1.is) in
-    ([], parts_text parts, (h.0, spells, refl), record { parts = parts; read = h.1.text; written = refl })
+    ([], texts.writes line x, (h.0, spells, refl), splits text x h.1.reads)

@@ -1,11 +1,11 @@
 -- The fields of arguments and results: NAME=VALUE, in the order of the message.
-use Rattle.std.specs.Prelude.{ℕ, ◌==◌, List, [], ◌∷◌, ◌++◌, codes, if◌then◌else◌}
-use Rattle.sd_xdr.specs.Kind.{any, flag, between, fixed, upto, no_limit, part, Kind, void, ◌&◌, given, where_zero, Value, number_of, first, second}
+use Rattle.std.specs.Prelude.{ℕ, ◌++◌, codes}
+use Rattle.sd_xdr.specs.Kind.{any, flag, between, fixed, upto, no_limit, part, Kind, void, ◌&◌, given, where_zero}
 use Rattle.sd_show.specs.declared.fields.Field.{Field}
 use Rattle.sd_show.specs.declared.fields.Field.TheVariants as fields
 use Rattle.sd_text.specs.Texts.{Text}
-use Rattle.sd_show.specs.Forms.{Form, as_number, as_ip, as_run, as_quoted, ◌⊞◌, in_parens, in_brackets, form_kind}
-use Rattle.sd_show.specs.Parts.{Part, said}
+use Rattle.sd_text.specs.Kind as texts
+use Rattle.sd_show.specs.Forms.{Form, as_number, as_ip, as_run, as_quoted, ◌⊞◌, in_parens, in_brackets, form_kind, text_kind}
 
 -- what stands before the `=` of a field
 abbrev pub field_name : Field → Text
@@ -137,14 +137,10 @@ fields_kind (A ⊕ B) = fields_kind A & fields_kind B
 fields_kind (numbered n A) = given n (fields_kind A)
 fields_kind (checked A) = where_zero (fields_kind A)
 
--- NAME=VALUE
-abbrev pub field_part : Field → Value → Part
-field_part f x = said (field_name f ++ codes "=") (field_form f) x
-
--- the fields with the values of a message, each a part
-abbrev pub fields_parts : Fields → Value → List Part
-fields_parts nothing x = []
-fields_parts (field f) x = field_part f x ∷ []
-fields_parts (A ⊕ B) x = fields_parts A (first x) ++ fields_parts B (second x)
-fields_parts (numbered n A) x = fields_parts A (second x)
-fields_parts (checked A) x = field_part fields.Status (first x) ∷ (if number_of (first x) == 0 then fields_parts A (second x) else [])
+-- the kind of their texts: a space, NAME=VALUE, and so on
+abbrev pub fields_text : Fields → texts.Kind
+fields_text nothing = texts.void
+fields_text (field f) = texts.said (codes " " ++ (field_name f ++ codes "=")) (text_kind (field_form f))
+fields_text (A ⊕ B) = texts.◌&◌ (fields_text A) (fields_text B)
+fields_text (numbered n A) = texts.given n (fields_text A)
+fields_text (checked A) = texts.said (codes " " ++ (field_name fields.Status ++ codes "=")) (texts.where_zero (fields_text A))

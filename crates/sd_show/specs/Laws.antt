@@ -1,12 +1,13 @@
 -- What holds of the texts of packets. The functions of src/laws.rt have these as their contracts.
-use Rattle.std.specs.Prelude.{◌≡◌, ◌⊎◌, List, []}
+use Rattle.std.specs.Prelude.{◌≡◌, ◌⊎◌, List}
 use Rattle.sd_outside.specs.declared.packet.Packet.{Packet}
+use Rattle.sd_xdr.specs.Kind.{Value}
 use Rattle.sd_text.specs.Texts.{Text}
-use Rattle.sd_show.specs.Words.{words}
+use Rattle.sd_text.specs.Grammar.{Reads, writes}
 use Rattle.sd_show.specs.declared.calls.Heard.{Heard}
 use Rattle.sd_text.specs.Packets.{IsPacket}
 use Rattle.sd_show.specs.declared.error.ShowError.{ShowError}
-use Rattle.sd_show.specs.Parts.{Part, parts_text, BeginWith}
+use Rattle.sd_show.specs.Lines.{line}
 use Rattle.sd_show.specs.Shown.{Shows, Packs, IsWritten}
 use Rattle.sd_show.specs.Refused.{HasNoText, HasNoPacket}
 
@@ -42,11 +43,11 @@ OneTextRefusal = (text : Text) (d e : ShowError) → HasNoPacket text d → HasN
 abbrev pub ShownIsPacked : Type 0
 ShownIsPacked = (seen : List Heard) (packet written : Packet) (text : Text) → IsPacket packet → Shows seen packet text → IsWritten seen packet written → Packs text written
 
--- A text of a packet is the one that it has behind some calls, but for how its byte runs are split.
+-- A text of a packet is the one that it has behind some calls, but for how its byte runs are split: both spell one value.
 pub record IsSplitOf (text shown : Text) : Type 0 where
-  pub parts : List Part
-  pub read : BeginWith parts (words text) []
-  pub written : shown ≡ parts_text parts
+  pub value : Value
+  pub reads : Reads line text value
+  pub written : shown ≡ writes line value
 
 abbrev pub PackedIsShown : Type 0
 PackedIsShown = (text : Text) (packet : Packet) → Packs text packet → (seen : List Heard) × (shown : Text) × Shows seen packet shown × IsSplitOf text shown

@@ -1,25 +1,18 @@
--- The parts of an RPC message's text, and of the datagram that carries it.
-use Rattle.std.specs.Prelude.{◌≡◌, ℕ, List, [], ◌∷◌, ◌++◌, Option, Some, None, codes}
-use Rattle.std.specs.Fmt.{decimal}
+-- What the arguments of a call, and the results of a reply, say.
+use Rattle.std.specs.Prelude.{◌≡◌, ℕ, List, [], Option, Some, None}
 use Rattle.sd_outside.specs.declared.packet.Addr.{Addr}
 use Rattle.sd_xdr.specs.Kind.{whole, Value}
 use Rattle.sd_xdr.specs.Grammar.{Reads, writes, HasSpelling}
-use Rattle.sd_rpc_msg.specs.declared.message.OpaqueAuth.{OpaqueAuth}
 use Rattle.sd_rpc_msg.specs.declared.message.Call.{Call}
 use Rattle.sd_rpc_msg.specs.declared.message.Outcome.{Outcome}
 use Rattle.sd_rpc_msg.specs.declared.message.Outcome.TheVariants.{Success, ProgUnavail, ProgMismatch, ProcUnavail, GarbageArgs, RpcMismatch, AuthError}
 use Rattle.sd_rpc_msg.specs.declared.message.Message.{Message}
 use Rattle.sd_rpc_msg.specs.declared.message.Message.TheVariants.{Asked, Answered}
-use Rattle.sd_text.specs.Texts.{addr_text}
 use Rattle.sd_show.specs.declared.procedures.Procedure.{Procedure}
 use Rattle.sd_show.specs.declared.procedures.Known.{Known}
 use Rattle.sd_show.specs.declared.calls.Heard.{Heard}
-use Rattle.sd_show.specs.Parts.{Part, exact, run, auth_parts, procedure_text}
-use Rattle.sd_show.specs.Fields.{fields_parts}
-use Rattle.sd_show.specs.Programs.{numbers, known_text, IsUnknown, args_kind, results_kind, args, results}
+use Rattle.sd_show.specs.Programs.{numbers, IsUnknown, args_kind, results_kind}
 use Rattle.sd_show.specs.Calls.{procedure_of, answered}
-
--- ---- what the arguments of a call, or the results of a reply, are
 
 -- the bytes alone; or those of a procedure that is known by name, as a value
 pub data Body : Type 0 where
@@ -98,39 +91,3 @@ with_results (AuthError stat) b = AuthError stat
 abbrev pub with_body : Message → Body → Message
 with_body (Asked c) b = Asked (with_args c b)
 with_body (Answered r) b = Answered record r { outcome = with_results r.outcome b }
-
--- ---- parts
-
--- PROG/VERS/PROC BYTES, or PROG.PROC FIELDS
-abbrev pub asked_parts : Procedure → Body → List Part
-asked_parts p (bare bs) = exact (procedure_text p.prog p.vers p.proc_no) ∷ run bs ∷ []
-asked_parts p (read_as k x) = exact (known_text k) ∷ fields_parts (args k) x
-
--- call XID, what is asked, cred FLAVOR BYTES verf FLAVOR BYTES
-abbrev pub call_parts : Call → Body → List Part
-call_parts c b =
-    exact (codes "call") ∷ exact (decimal c.xid)
-    ∷ (asked_parts (procedure_of c) b ++ (auth_parts (codes "cred") c.cred ++ auth_parts (codes "verf") c.verf))
-
--- raw verf FLAVOR BYTES success BYTES, or PROG.PROC verf FLAVOR BYTES success FIELDS
-abbrev pub success_parts : OpaqueAuth → Body → List Part
-success_parts verf (bare bs) = exact (codes "raw") ∷ (auth_parts (codes "verf") verf ++ exact (codes "success") ∷ run bs ∷ [])
-success_parts verf (read_as k x) = exact (known_text k) ∷ (auth_parts (codes "verf") verf ++ exact (codes "success") ∷ fields_parts (results k) x)
-
--- what follows `reply XID`
-abbrev pub outcome_parts : Outcome → Body → List Part
-outcome_parts (Success verf bs) b = success_parts verf b
-outcome_parts (ProgUnavail verf) b = auth_parts (codes "verf") verf ++ exact (codes "progunavail") ∷ []
-outcome_parts (ProgMismatch verf low high) b = auth_parts (codes "verf") verf ++ exact (codes "progmismatch") ∷ exact (decimal low) ∷ exact (decimal high) ∷ []
-outcome_parts (ProcUnavail verf) b = auth_parts (codes "verf") verf ++ exact (codes "procunavail") ∷ []
-outcome_parts (GarbageArgs verf) b = auth_parts (codes "verf") verf ++ exact (codes "garbageargs") ∷ []
-outcome_parts (RpcMismatch low high) b = exact (codes "rpcmismatch") ∷ exact (decimal low) ∷ exact (decimal high) ∷ []
-outcome_parts (AuthError stat) b = exact (codes "autherror") ∷ exact (decimal stat) ∷ []
-
-abbrev pub message_parts : Message → Body → List Part
-message_parts (Asked c) b = call_parts c b
-message_parts (Answered r) b = exact (codes "reply") ∷ exact (decimal r.xid) ∷ outcome_parts r.outcome b
-
--- udp ADDR ADDR, the source first, and what the datagram carries
-abbrev pub datagram_parts : Addr → Addr → List Part → List Part
-datagram_parts src dst content = exact (codes "udp") ∷ exact (addr_text src) ∷ exact (addr_text dst) ∷ content

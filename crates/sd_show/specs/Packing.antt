@@ -1,194 +1,206 @@
--- Words for the functions that write and read the parts of a text.
-use Rattle.std.specs.Prelude.{◌≡◌, ◌⊎◌, ℕ, ◌≤◌, IsTrue, IsFalse, List, [], ◌∷◌, ◌++◌, length, codes, Result, Ok, Err}
-use Rattle.std.specs.Fmt.{decimal}
+-- Words for the functions that read the texts of packets.
+use Rattle.std.specs.Prelude.{◌≡◌, ℕ, ◌+◌, ◌<◌, ◌≤◌, Bool, true, false, List, ◌++◌, length, Option, Some, None, Result, Ok, Err}
 use Rattle.sd_outside.specs.declared.packet.Addr.{Addr}
 use Rattle.sd_outside.specs.declared.packet.Packet.{Packet}
 use Rattle.sd_outside.specs.declared.packet.Packet.TheVariants.{Frame, Udp}
-use Rattle.sd_xdr.specs.Kind.{Value}
-use Rattle.sd_xdr.specs.Grammar.{writes, HasSpelling}
-use Rattle.sd_tftp.specs.declared.packet.TftpPacket.{TftpPacket}
-use Rattle.sd_tftp.specs.Grammar as tftp
-use Rattle.sd_rarp.specs.declared.frame.RarpFrame.{RarpFrame}
-use Rattle.sd_rarp.specs.Frame.{frame_bytes}
-use Rattle.sd_rpc_msg.specs.declared.message.OpaqueAuth.{OpaqueAuth}
-use Rattle.sd_rpc_msg.specs.declared.message.Call.{Call}
-use Rattle.sd_rpc_msg.specs.declared.message.Reply.{Reply}
+use Rattle.sd_xdr.specs.Kind as xdr
+use Rattle.sd_xdr.specs.Kind.{Value, none, number, ◌⊗◌}
+use Rattle.sd_xdr.specs.Grammar.{HasSpelling, writes}
+use Rattle.sd_xdr.specs.Reading as binary
 use Rattle.sd_rpc_msg.specs.declared.message.Outcome.{Outcome}
 use Rattle.sd_rpc_msg.specs.declared.message.Outcome.TheVariants.{Success, ProgUnavail, ProgMismatch, ProcUnavail, GarbageArgs, RpcMismatch, AuthError}
 use Rattle.sd_rpc_msg.specs.declared.message.Message.{Message}
 use Rattle.sd_rpc_msg.specs.declared.message.Message.TheVariants.{Asked, Answered}
-use Rattle.sd_rpc_msg.specs.Layout.{message, message_value}
-use Rattle.sd_rpc_msg.specs.Laws.{IsWord, IsAuth, IsMessage}
-use Rattle.sd_text.specs.Texts.{Text, cut, IsAddr}
+use Rattle.sd_rpc_msg.specs.Layout.{message, message_value, MessageFits}
+use Rattle.sd_tftp.specs.Grammar as tftp
+use Rattle.sd_rarp.specs.Frame.{frame_bytes}
+use Rattle.sd_text.specs.Texts.{Text}
+use Rattle.sd_text.specs.Kind.{Kind}
 use Rattle.sd_text.specs.declared.error.LineError.{LineError}
 use Rattle.sd_text.specs.Answers.{OnOutside}
-use Rattle.sd_show.specs.declared.procedures.Procedure.{Procedure}
+use Rattle.sd_text.specs.Reading.{◌>>=◌, Read, reading, many_reading}
 use Rattle.sd_show.specs.declared.procedures.Known.{Known}
+use Rattle.sd_show.specs.declared.form.Form.{Form}
+use Rattle.sd_show.specs.declared.form.Form.TheVariants as forms
+use Rattle.sd_show.specs.declared.form.Fields.{Fields}
+use Rattle.sd_show.specs.declared.form.Fields.TheVariants as fields
+use Rattle.sd_show.specs.declared.packing.AskedText.{AskedText}
+use Rattle.sd_show.specs.declared.packing.State.{State}
+use Rattle.sd_show.specs.declared.packing.State.TheVariants as states
+use Rattle.sd_show.specs.declared.packing.OutcomeText.{OutcomeText}
+use Rattle.sd_show.specs.declared.packing.MessageText.{MessageText}
+use Rattle.sd_show.specs.declared.lines.Carried.{Carried}
+use Rattle.sd_show.specs.declared.lines.Carried.TheVariants as carried
+use Rattle.sd_show.specs.declared.lines.Line.{Line}
+use Rattle.sd_show.specs.declared.lines.Line.TheVariants as lines
+use Rattle.sd_show.specs.Forms as written
+use Rattle.sd_show.specs.Forms.{as_number, as_ip, as_run, as_quoted, ◌⊞◌, in_parens, in_brackets, form_kind, longest, text_kind}
+use Rattle.sd_show.specs.Fields as rows
+use Rattle.sd_show.specs.Fields.{nothing, field, ◌⊕◌, numbered, checked, fields_kind, fields_text}
+use Rattle.sd_show.specs.Programs.{args_kind, results_kind}
+use Rattle.sd_show.specs.Messages.{Body, bare, read_as, no_body, AreWrittenArgs, IsWrittenOutcome, IsWrittenBody}
+use Rattle.sd_show.specs.Lines.{place, asked_value, outcome_value, carries_file, carries_message, datagram_line, frame_line}
 use Rattle.sd_show.specs.Shown.{is_tftp}
-use Rattle.sd_show.specs.Frames.{FrameStands}
-use Rattle.sd_show.specs.Parts.{Part, exact, run, part_text, auth_parts, tftp_parts, BeginWith}
-use Rattle.sd_show.specs.Fields.{fields_parts}
-use Rattle.sd_show.specs.Programs.{known_text, results_kind, results}
-use Rattle.sd_show.specs.Calls.{procedure_of}
-use Rattle.sd_show.specs.Messages.{Body, bare, read_as, AreWrittenArgs, asked_parts}
 
--- parts behind others, a space before each
-abbrev pub spaced : List Part → Text
-spaced [] = []
-spaced (part ∷ parts) = 32 ∷ (part_text part ++ spaced parts)
+-- ---- the tables of the code beside the forms and fields of the definitions
 
--- A value whose parts stand at the front, or `Outside` where there is none.
-abbrev pub TakesParts : {X : Type 0} → (X → List Text → List Text → Type 0) → List Text → List Text → Result X LineError → Type 0
-TakesParts R old new (Ok x) = R x old new
-TakesParts {X} R old new (Err e) = OnOutside e ((x : X) (rest : List Text) → R x old rest → ⊥)
+abbrev pub form_of : Form → written.Form
+form_of forms.Number = as_number xdr.any
+form_of forms.Flag = as_number xdr.flag
+form_of forms.Port = as_number (xdr.between 0 65535)
+form_of forms.Address = as_ip
+form_of (forms.Fixed n) = as_run (xdr.fixed n)
+form_of (forms.Run most) = as_run (xdr.upto most)
+form_of (forms.Quoted most) = as_quoted most
+form_of (forms.Pair' p A q B) = form_of A ⊞ form_of B
+form_of (forms.Row' p A) = in_parens (form_of A)
+form_of (forms.List' p A) = in_brackets (form_of A)
 
--- The first text is this word.
-abbrev pub TakesWord : Text → List Text → List Text → Result Unit LineError → Type 0
-TakesWord word old new (Ok done) = old ≡ word ∷ new
-TakesWord word old new (Err e) = OnOutside e ((rest : List Text) → old ≡ word ∷ rest → ⊥)
+abbrev pub fields_of : Fields → rows.Fields
+fields_of fields.Nothing = nothing
+fields_of (fields.One f) = field f
+fields_of (fields.Both' p A q B) = fields_of A ⊕ fields_of B
+fields_of (fields.Numbered' n p A) = numbered n (fields_of A)
+fields_of (fields.Checked' p A) = checked (fields_of A)
 
--- ---- what stands where, with the limits of its values
+-- ---- a text that is read into the bytes of a message
 
--- FLAVOR BYTES
-abbrev pub BodyStands : OpaqueAuth → List Text → List Text → Type 0
-BodyStands a old new = IsAuth a × BeginWith (exact (decimal a.flavor) ∷ run a.body ∷ []) old new
+-- bytes with those of the value that a text begins with, and the text behind it
+abbrev pub Packed : Type 0
+Packed = Option (List ℕ × Text)
 
-abbrev pub AuthStands : Text → OpaqueAuth → List Text → List Text → Type 0
-AuthStands name a old new = IsAuth a × BeginWith (auth_parts name a) old new
+abbrev pub packed_with : xdr.Kind xdr.part → List ℕ → Read → Packed
+packed_with M w r = r >>= λ (x : Value × Text). Some (w ++ writes M x.0, x.1)
 
--- PROG/VERS/PROC
-pub record IsProcedure (text : Text) (p : Procedure) : Type 0 where
-  pub parts : cut 47 text ≡ decimal p.prog ∷ decimal p.vers ∷ decimal p.proc_no ∷ []
-  pub prog : IsWord p.prog
-  pub vers : IsWord p.vers
-  pub proc_no : IsWord p.proc_no
+unfoldable pub packs_as : Kind → xdr.Kind xdr.part → List ℕ → Text → Packed
+packs_as K M w t = packed_with M w (reading K t)
 
--- bytes that are not read are no longer than a datagram
-abbrev pub IsShortBody : Body → Type 0
-IsShortBody (bare bs) = length bs ≤ 9216
-IsShortBody (read_as k x) = Unit {0}
+abbrev pub TakesAs : Kind → xdr.Kind xdr.part → List ℕ → Text → List ℕ → Text → Result (Unit {0}) LineError → Type 0
+TakesAs K M w t v u (Ok done) = packs_as K M w t ≡ Some (v, u)
+TakesAs K M w t v u (Err e) = OnOutside e (packs_as K M w t ≡ None)
 
--- the numbers of a procedure are words
-abbrev pub AreWords : Procedure → Type 0
-AreWords p = IsWord p.prog × IsWord p.vers × IsWord p.proc_no
+abbrev pub TakesForm : written.Form → List ℕ → Text → List ℕ → Text → Result (Unit {0}) LineError → Type 0
+TakesForm F w t v u r = TakesAs (text_kind F) (form_kind F) w t v u r
 
--- what is asked, with the arguments as they are written
-abbrev pub AskedStands : Procedure × List ℕ → List Text → List Text → Type 0
-AskedStands asked old new = AreWords asked.0 × (b : Body) × AreWrittenArgs asked.0 asked.1 b × IsShortBody b × BeginWith (asked_parts asked.0 b) old new
+-- items behind a comma, at most so many, and the end of their list
+unfoldable pub packs_more : Kind → xdr.Kind xdr.part → ℕ → List ℕ → Text → Packed
+packs_more K M most w t = packed_with (xdr.list M) w (many_reading (reading K) 44 most t)
 
--- XID, what is asked, cred FLAVOR BYTES verf FLAVOR BYTES
-pub record CallStands (c : Call) (old new : List Text) : Type 0 where
-  pub b : Body
-  pub is : IsMessage (Asked c)
-  pub body : AreWrittenArgs (procedure_of c) c.args b
-  pub short : IsShortBody b
-  pub parts : BeginWith (exact (decimal c.xid) ∷ (asked_parts (procedure_of c) b ++ (auth_parts (codes "cred") c.cred ++ auth_parts (codes "verf") c.verf))) old new
+abbrev pub TakesMore : Kind → xdr.Kind xdr.part → List ℕ → Text → List ℕ → Text → Result (Unit {0}) LineError → Type 0
+TakesMore K M w t v u (Ok done) = packs_more K M longest w t ≡ Some (v, u)
+TakesMore K M w t v u (Err e) = OnOutside e (packs_more K M longest w t ≡ None)
 
--- the two authentications of a call
-abbrev pub AuthsStand : OpaqueAuth × OpaqueAuth → List Text → List Text → Type 0
-AuthsStand both old new = (mid : List Text) × AuthStands (codes "cred") both.0 old mid × AuthStands (codes "verf") both.1 mid new
+-- ---- what stands in the text of a message
 
--- verf FLAVOR BYTES success, and what follows
-abbrev pub DoneStands : OpaqueAuth → List Part → List Text → List Text → Type 0
-DoneStands verf behind old new = (mid : List Text) × AuthStands (codes "verf") verf old mid × BeginWith (exact (codes "success") ∷ behind) mid new
+-- the place of a procedure's name among the known ones, and among those that a reply may begin with
+abbrev pub place_of : Option Known → Option ℕ
+place_of (Some k) = Some (place k)
+place_of None = None
 
--- verf FLAVOR BYTES success BYTES
-abbrev pub RawStands : OpaqueAuth × List ℕ → List Text → List Text → Type 0
-RawStands both old new = (length both.1 ≤ 9216) × DoneStands both.0 (run both.1 ∷ []) old new
+abbrev pub later_place_of : Option Known → Option ℕ
+later_place_of (Some k) = Some (place k + 4)
+later_place_of None = None
 
--- verf FLAVOR BYTES success FIELDS
-abbrev pub KnownStands : Known → OpaqueAuth × List ℕ → List Text → List Text → Type 0
-KnownStands k both old new = (x : Value) × HasSpelling (results_kind k) x × (both.1 ≡ writes (results_kind k) x) × DoneStands both.0 (fields_parts (results k) x) old new
+-- the value that bytes are read as
+abbrev pub value_read : binary.Read → Value
+value_read (Ok x) = x.0
+value_read (Err e) = none
 
--- what follows the number of a reply to a call that was done
-abbrev pub SuccessStands : OpaqueAuth × List ℕ → List Text → List Text → Type 0
-SuccessStands both old new = (mid : List Text)
-    × (((old ≡ codes "raw" ∷ mid) × RawStands both mid new) ⊎ ((k : Known) × (old ≡ known_text k ∷ mid) × KnownStands k both mid new))
+unfoldable pub value_in : xdr.Kind xdr.whole → List ℕ → Value
+value_in K bs = value_read (binary.reading K (binary.start bs))
 
--- LOW HIGH
-abbrev pub RangeStands : ℕ × ℕ → List Text → List Text → Type 0
-RangeStands range old new = IsWord range.0 × IsWord range.1 × BeginWith (exact (decimal range.0) ∷ exact (decimal range.1) ∷ []) old new
+-- bytes as they are written for their value
+abbrev pub AreWritten : xdr.Kind xdr.whole → List ℕ → Type 0
+AreWritten K bs = HasSpelling K (value_in K bs) × (bs ≡ writes K (value_in K bs))
 
--- what follows the verifier of an accepted call that has no results
-abbrev pub StateStands : OpaqueAuth → Outcome → List Text → List Text → Type 0
-StateStands verf (ProgUnavail v) old new = (v ≡ verf) × (old ≡ codes "progunavail" ∷ new)
-StateStands verf (ProgMismatch v low high) old new = (v ≡ verf) × ((mid : List Text) × (old ≡ codes "progmismatch" ∷ mid) × RangeStands (low, high) mid new)
-StateStands verf (ProcUnavail v) old new = (v ≡ verf) × (old ≡ codes "procunavail" ∷ new)
-StateStands verf (GarbageArgs v) old new = (v ≡ verf) × (old ≡ codes "garbageargs" ∷ new)
-StateStands verf (Success v results) old new = ⊥
-StateStands verf (RpcMismatch low high) old new = ⊥
-StateStands verf (AuthError stat) old new = ⊥
+-- arguments and results, of a procedure that is known by name or of another
+abbrev pub args_body : Option Known → List ℕ → Body
+args_body None bs = bare bs
+args_body (Some k) bs = read_as k (value_in (args_kind k) bs)
 
--- FLAVOR BYTES, and the state
-abbrev pub AcceptedStands : Outcome → List Text → List Text → Type 0
-AcceptedStands o old new = (verf : OpaqueAuth) × (mid : List Text) × BodyStands verf old mid × StateStands verf o mid new
+abbrev pub results_body : Option Known → List ℕ → Body
+results_body None bs = bare bs
+results_body (Some k) bs = read_as k (value_in (results_kind k) bs)
 
--- what follows the number of a reply
-abbrev pub OutcomeStands : Outcome → List Text → List Text → Type 0
-OutcomeStands (Success verf bs) old new = SuccessStands (verf, bs) old new
-OutcomeStands (ProgUnavail verf) old new = (mid : List Text) × (old ≡ codes "verf" ∷ mid) × AcceptedStands (ProgUnavail verf) mid new
-OutcomeStands (ProgMismatch verf low high) old new = (mid : List Text) × (old ≡ codes "verf" ∷ mid) × AcceptedStands (ProgMismatch verf low high) mid new
-OutcomeStands (ProcUnavail verf) old new = (mid : List Text) × (old ≡ codes "verf" ∷ mid) × AcceptedStands (ProcUnavail verf) mid new
-OutcomeStands (GarbageArgs verf) old new = (mid : List Text) × (old ≡ codes "verf" ∷ mid) × AcceptedStands (GarbageArgs verf) mid new
-OutcomeStands (RpcMismatch low high) old new = (mid : List Text) × (old ≡ codes "rpcmismatch" ∷ mid) × RangeStands (low, high) mid new
-OutcomeStands (AuthError stat) old new = (1 ≤ stat) × (stat ≤ 5) × BeginWith (exact (codes "autherror") ∷ exact (decimal stat) ∷ []) old new
+abbrev pub outcome_body : Option Known → Outcome → Body
+outcome_body known (Success verf bs) = results_body known bs
+outcome_body known (ProgUnavail verf) = no_body
+outcome_body known (ProgMismatch verf low high) = no_body
+outcome_body known (ProcUnavail verf) = no_body
+outcome_body known (GarbageArgs verf) = no_body
+outcome_body known (RpcMismatch low high) = no_body
+outcome_body known (AuthError stat) = no_body
 
--- XID, and the outcome
-abbrev pub ReplyStands : Reply → List Text → List Text → Type 0
-ReplyStands r old new = IsWord r.xid × ((mid : List Text) × (old ≡ decimal r.xid ∷ mid) × OutcomeStands r.outcome mid new)
+abbrev pub message_body : Option Known → Message → Body
+message_body known (Asked c) = args_body known c.args
+message_body known (Answered r) = outcome_body known r.outcome
 
--- what follows this word
-abbrev pub MessageStands : Text → Message → List Text → List Text → Type 0
-MessageStands word (Asked c) old new = (word ≡ codes "call") × CallStands c old new
-MessageStands word (Answered r) old new = (word ≡ codes "reply") × ReplyStands r old new
+abbrev pub asked_told : AskedText → Value
+asked_told a = asked_value a.procedure (args_body a.known a.args)
 
--- what follows `tftp`
-pub record FileStands (p : TftpPacket) (old new : List Text) : Type 0 where
-  pub range : tftp.IsInRange p
-  pub fits : tftp.HasSpelling p
-  pub parts : BeginWith (tftp_parts p) old new
+abbrev pub IsAskedWritten : AskedText → Type 0
+IsAskedWritten a = AreWrittenArgs a.procedure a.args (args_body a.known a.args)
 
--- ---- whole texts
+abbrev pub state_told : State → Value
+state_told states.ProgUnavail = number 0 ⊗ none
+state_told (states.ProgMismatch low high) = number 1 ⊗ number low ⊗ number high
+state_told states.ProcUnavail = number 2 ⊗ none
+state_told states.GarbageArgs = number 3 ⊗ none
 
--- the datagram of a message
-pub record IsDatagramOf (src dst : Addr) (m : Message) (packet : Packet) : Type 0 where
-  pub other : IsFalse (is_tftp src dst)
-  pub short : length (writes message (message_value m)) ≤ 9216
-  pub means : packet ≡ Udp src dst (writes message (message_value m))
+abbrev pub outcome_told : OutcomeText → Value
+outcome_told o = outcome_value o.outcome (outcome_body o.known o.outcome)
 
--- the datagram of a packet of TFTP
-pub record IsDatagramOfFile (src dst : Addr) (p : TftpPacket) (packet : Packet) : Type 0 where
-  pub port : IsTrue (is_tftp src dst)
-  pub short : length (tftp.packet_bytes p) ≤ 9216
-  pub means : packet ≡ Udp src dst (tftp.packet_bytes p)
+abbrev pub IsOutcomeWritten : OutcomeText → Type 0
+IsOutcomeWritten o = IsWrittenOutcome o.outcome (outcome_body o.known o.outcome)
 
--- what follows `udp ADDR ADDR tftp`
-abbrev pub IsFileText : Addr → Addr → List Text → Packet → Type 0
-IsFileText src dst texts packet = (p : TftpPacket) × FileStands p texts [] × IsDatagramOfFile src dst p packet
+abbrev pub message_told : MessageText → Value
+message_told t = carries_message t.message (message_body t.known t.message)
 
--- what follows `udp ADDR ADDR` and this word
-abbrev pub IsMessageText : Addr → Addr → Text → List Text → Packet → Type 0
-IsMessageText src dst word texts packet = (m : Message) × MessageStands word m texts [] × IsDatagramOf src dst m packet
+abbrev pub IsMessageWritten : MessageText → Type 0
+IsMessageWritten t = IsWrittenBody t.message (message_body t.known t.message)
 
--- what follows `udp`
-pub record IsDatagramText (parts : List Text) (packet : Packet) : Type 0 where
-  pub src : Addr
-  pub dst : Addr
-  pub from : Text
-  pub to : Text
-  pub word : Text
-  pub rest : List Text
-  pub text : parts ≡ from ∷ to ∷ word ∷ rest
-  pub is_src : IsAddr from src
-  pub is_dst : IsAddr to dst
-  pub content : ((word ≡ codes "tftp") × IsFileText src dst rest packet) ⊎ IsMessageText src dst word rest packet
+-- ---- lines
 
--- what follows `rarp`
-pub record IsFrameText (parts : List Text) (packet : Packet) : Type 0 where
-  pub f : RarpFrame
-  pub stands : FrameStands f parts []
-  pub means : packet ≡ Frame (frame_bytes f)
+abbrev pub carried_told : Carried → Value
+carried_told (carried.File p) = carries_file p
+carried_told (carried.Rpc t) = message_told t
 
-abbrev pub IsPacketText : List Text → Packet → Type 0
-IsPacketText parts packet = (rest : List Text)
-    × (((parts ≡ codes "udp" ∷ rest) × IsDatagramText rest packet) ⊎ ((parts ≡ codes "rarp" ∷ rest) × IsFrameText rest packet))
+abbrev pub IsCarriedWritten : Carried → Type 0
+IsCarriedWritten (carried.File p) = Unit {0}
+IsCarriedWritten (carried.Rpc t) = IsMessageWritten t
+
+abbrev pub line_told : Line → Value
+line_told (lines.Datagram src dst c) = datagram_line src dst (carried_told c)
+line_told (lines.Rarp f) = frame_line f
+
+abbrev pub IsLineWritten : Line → Type 0
+IsLineWritten (lines.Datagram src dst c) = IsCarriedWritten c
+IsLineWritten (lines.Rarp f) = Unit {0}
+
+-- the bytes that a datagram of this carries
+abbrev pub carried_bytes : Carried → List ℕ
+carried_bytes (carried.File p) = tftp.packet_bytes p
+carried_bytes (carried.Rpc t) = writes message (message_value t.message)
+
+-- packets of TFTP go to or from its ports, and messages to none of them
+abbrev pub is_file : Carried → Bool
+is_file (carried.File p) = true
+is_file (carried.Rpc t) = false
+
+-- the packet that a line says: its datagram has no more than 9,216 bytes
+abbrev pub IsPacketOf : Line → Packet → Type 0
+IsPacketOf (lines.Datagram src dst c) packet = (is_tftp src dst ≡ is_file c) × (length (carried_bytes c) ≤ 9216) × (packet ≡ Udp src dst (carried_bytes c))
+IsPacketOf (lines.Rarp f) packet = packet ≡ Frame (frame_bytes f)
+
+abbrev pub IsDatagram : Addr → Addr → List ℕ → Option Packet → Type 0
+IsDatagram src dst body (Some packet) = (length body ≤ 9216) × (packet ≡ Udp src dst body)
+IsDatagram src dst body None = 9216 < length body
+
+-- what has room in its bytes
+abbrev pub CarriedFits : Carried → Type 0
+CarriedFits (carried.File p) = tftp.HasSpelling p
+CarriedFits (carried.Rpc t) = MessageFits t.message
+
+abbrev pub LineFits : Line → Type 0
+LineFits (lines.Datagram src dst c) = CarriedFits c
+LineFits (lines.Rarp f) = Unit {0}

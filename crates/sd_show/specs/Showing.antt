@@ -1,10 +1,12 @@
 -- Words for the functions that write the text of a packet.
-use Rattle.std.specs.Prelude.{◌≡◌, ℕ, ◌+◌, ◌<◌, ◌^◌, ◌⊎◌, List, length, Option, Some, None}
+use Rattle.std.specs.Prelude.{◌≡◌, ℕ, ◌+◌, ◌<◌, ◌^◌, ◌⊎◌, List, ◌++◌, codes, length, Option, Some, None}
 use Rattle.sd_outside.specs.declared.packet.Addr.{Addr}
 use Rattle.sd_rpc_msg.specs.declared.message.Outcome.{Outcome}
 use Rattle.sd_rpc_msg.specs.declared.message.Outcome.TheVariants.{Success, ProgUnavail, ProgMismatch, ProcUnavail, GarbageArgs, RpcMismatch, AuthError}
 use Rattle.sd_rpc_msg.specs.declared.message.Message.{Message}
 use Rattle.sd_rpc_msg.specs.declared.message.Message.TheVariants.{Asked, Answered}
+use Rattle.sd_text.specs.Kind.{addr, addr_value}
+use Rattle.sd_text.specs.Grammar.{writes}
 use Rattle.sd_show.specs.declared.error.ShowError.{ShowError}
 use Rattle.sd_show.specs.declared.error.ShowError.TheVariants.{Bad, NoMemory}
 use Rattle.sd_show.specs.declared.procedures.Procedure.{Procedure}
@@ -55,3 +57,7 @@ moved by NoMemory = NoMemory
 abbrev pub PlaceFits : ℕ → ShowError → Type 0
 PlaceFits by (Bad word at) = at + by < 2 ^ 64
 PlaceFits by NoMemory = Unit {0}
+
+-- udp ADDR ADDR, and a space
+abbrev pub datagram_head : Addr → Addr → List ℕ
+datagram_head src dst = codes "udp " ++ (writes addr (addr_value src) ++ (codes " " ++ (writes addr (addr_value dst) ++ codes " ")))

@@ -1,5 +1,5 @@
 -- Which text a packet has, and of which packets a text is.
-use Rattle.std.specs.Prelude.{◌≡◌, ◌⊎◌, ℕ, ◌≤◌, ◌<◌, ◌^◌, Bool, ◌||◌, ◌&&◌, ◌==◌, nat_le, IsTrue, IsFalse, List, [], ◌∷◌, length, codes}
+use Rattle.std.specs.Prelude.{◌≡◌, ◌⊎◌, ℕ, ◌≤◌, ◌<◌, ◌^◌, Bool, ◌||◌, ◌&&◌, ◌==◌, nat_le, IsTrue, IsFalse, List, length}
 use Rattle.sd_outside.specs.Bytes.{IsMac}
 use Rattle.sd_outside.specs.declared.packet.Addr.{Addr}
 use Rattle.sd_outside.specs.declared.packet.Packet.{Packet}
@@ -16,11 +16,11 @@ use Rattle.sd_rarp.specs.declared.frame.RarpFrame.{RarpFrame}
 use Rattle.sd_rarp.specs.declared.frame.RarpFrame.TheVariants as frames
 use Rattle.sd_rarp.specs.Frame.{Spells, frame_bytes}
 use Rattle.sd_text.specs.Texts.{Text}
+use Rattle.sd_text.specs.Grammar as texts
 use Rattle.sd_text.specs.Packets.{AddrFits}
 use Rattle.sd_show.specs.declared.calls.Heard.{Heard}
-use Rattle.sd_show.specs.Words.{words}
-use Rattle.sd_show.specs.Parts.{Part, exact, tftp_parts, frame_parts, parts_text, BeginWith}
-use Rattle.sd_show.specs.Messages.{Body, IsBody, IsWrittenBody, with_body, message_parts, datagram_parts}
+use Rattle.sd_show.specs.Lines.{line, carries_file, carries_message, datagram_line, frame_line}
+use Rattle.sd_show.specs.Messages.{Body, IsBody, IsWrittenBody, with_body}
 use Rattle.sd_show.specs.Calls.{heard}
 
 -- the ports at which a datagram is one of TFTP: the server's (RFC 1350, section 4), and those of its sessions
@@ -30,10 +30,6 @@ is_tftp_port port = port == tftp_port || (nat_le 4096 port && nat_le port 8191)
 abbrev pub is_tftp : Addr → Addr → Bool
 is_tftp src dst = is_tftp_port src.port || is_tftp_port dst.port
 
--- what follows `udp ADDR ADDR` in the text of a packet of TFTP
-abbrev pub file_parts : TftpPacket → List Part
-file_parts p = exact (codes "tftp") ∷ tftp_parts p
-
 -- ---- the text of a packet
 
 -- a datagram that is a packet of TFTP
@@ -41,7 +37,7 @@ pub record ShowsFile (src dst : Addr) (content : List ℕ) (text : Text) : Type 
   pub p : TftpPacket
   pub port : IsTrue (is_tftp src dst)
   pub spells : tftp.Spells content p
-  pub means : text ≡ parts_text (datagram_parts src dst (file_parts p))
+  pub means : text ≡ texts.writes line (datagram_line src dst (carries_file p))
 
 -- a datagram that is an RPC message, behind these calls
 pub record ShowsMessage (seen : List Heard) (src dst : Addr) (content : List ℕ) (text : Text) : Type 0 where
@@ -50,12 +46,12 @@ pub record ShowsMessage (seen : List Heard) (src dst : Addr) (content : List ℕ
   pub other : IsFalse (is_tftp src dst)
   pub reads : Reads whole message content (message_value m)
   pub body : IsBody seen src dst m b
-  pub means : text ≡ parts_text (datagram_parts src dst (message_parts m b))
+  pub means : text ≡ texts.writes line (datagram_line src dst (carries_message m b))
 
 -- The text of a packet behind these calls.
 abbrev pub Shows : List Heard → Packet → Text → Type 0
 Shows seen (Udp src dst content) text = ShowsFile src dst content text ⊎ ShowsMessage seen src dst content text
-Shows seen (Frame bytes) text = (f : RarpFrame) × Spells bytes f × (text ≡ parts_text (frame_parts f))
+Shows seen (Frame bytes) text = (f : RarpFrame) × Spells bytes f × (text ≡ texts.writes line (frame_line f))
 
 -- The calls with that of this packet, if it holds one.
 abbrev pub Hears : List Heard → Packet → List Heard → Type 0
@@ -72,38 +68,36 @@ IsFrame (frames.Request dst src sender target) = IsMac dst × IsMac src × IsMac
 IsFrame (frames.Reply dst src sender sender_ip target target_ip) =
     IsMac dst × IsMac src × IsMac sender × (sender_ip < 2 ^ 32) × IsMac target × (target_ip < 2 ^ 32)
 
--- a datagram of TFTP as it is written, whose text, but for how byte runs are split, has these words
-pub record PacksFile (texts : List Text) (src dst : Addr) (content : List ℕ) : Type 0 where
+-- a datagram of TFTP as it is written, with this text
+pub record PacksFile (text : Text) (src dst : Addr) (content : List ℕ) : Type 0 where
   pub p : TftpPacket
   pub port : IsTrue (is_tftp src dst)
   pub range : tftp.IsInRange p
   pub fits : tftp.HasSpelling p
   pub written : content ≡ tftp.packet_bytes p
-  pub text : BeginWith (datagram_parts src dst (file_parts p)) texts []
+  pub reads : texts.Reads line text (datagram_line src dst (carries_file p))
 
 -- the same for an RPC message
-pub record PacksMessage (texts : List Text) (src dst : Addr) (content : List ℕ) : Type 0 where
+pub record PacksMessage (text : Text) (src dst : Addr) (content : List ℕ) : Type 0 where
   pub m : Message
   pub b : Body
   pub other : IsFalse (is_tftp src dst)
   pub is : IsMessage m
   pub body : IsWrittenBody m b
   pub written : content ≡ writes message (message_value m)
-  pub text : BeginWith (datagram_parts src dst (message_parts m b)) texts []
+  pub reads : texts.Reads line text (datagram_line src dst (carries_message m b))
 
 -- a frame as it is written, with this text
-pub record PacksFrame (texts : List Text) (bytes : List ℕ) (f : RarpFrame) : Type 0 where
+pub record PacksFrame (text : Text) (bytes : List ℕ) (f : RarpFrame) : Type 0 where
   pub is : IsFrame f
   pub written : bytes ≡ frame_bytes f
-  pub text : BeginWith (frame_parts f) texts []
+  pub reads : texts.Reads line text (frame_line f)
 
--- The packet whose text this is, in the written form: a datagram of at most 9,216 bytes, or a frame.
-abbrev pub PacksWords : List Text → Packet → Type 0
-PacksWords texts (Udp src dst content) = AddrFits src × AddrFits dst × (length content ≤ 9216) × (PacksFile texts src dst content ⊎ PacksMessage texts src dst content)
-PacksWords texts (Frame bytes) = (f : RarpFrame) × PacksFrame texts bytes f
-
+-- The packet whose text this is, in the written form: a datagram of at most 9,216 bytes, or a frame. A byte run may be split in any
+-- way.
 abbrev pub Packs : Text → Packet → Type 0
-Packs text packet = PacksWords (words text) packet
+Packs text (Udp src dst content) = AddrFits src × AddrFits dst × (length content ≤ 9216) × (PacksFile text src dst content ⊎ PacksMessage text src dst content)
+Packs text (Frame bytes) = (f : RarpFrame) × PacksFrame text bytes f
 
 -- ---- written form
 

@@ -2,74 +2,116 @@
 
 ghost use Rattle.std.specs.Prelude.{◌≡◌};
 ghost use Rattle.sd_show.specs.Fields.{field_name, field_form};
-ghost use Rattle.sd_show.specs.Shapes.{row_leaves, shape_form};
+ghost use Rattle.sd_show.specs.Packing.{form_of};
 
-/// One value.
-#[derive(Clone, Copy, Debug, PartialEq, Eq)]
-pub enum Leaf {
-    /// A word, in decimal.
-    Number,
-    /// A bool, as 0 or 1.
-    Flag,
-    /// A word up to 65,535, in decimal.
-    Port,
-    /// An address, as four numbers joined by dots.
-    Address,
-    /// So many bytes, as a byte run.
-    Fixed { len: u32 },
-    /// At most so many bytes, as a byte run.
-    Run { most: u32 },
-    /// A text of at most so many bytes, between quotation marks.
-    Text { most: u32 },
-}
+use crate::form::Form;
 
-/// Values with a comma between each two.
-#[derive(Clone, Copy, Debug, PartialEq, Eq)]
-pub enum Row {
-    /// The attributes of a file.
-    Attributes,
-    /// Attributes that are to be set.
-    Settings,
-    /// A mapping of the portmapper.
-    Mapping,
-    /// A mount: host and path.
-    Mount,
-    /// An entry of a directory: number, name and cookie.
-    Entry,
-}
+const NAME: Form = Form::Quoted { most: 255 };
 
-impl Row {
-    /// The values in order. There is more than one.
-    pub fn leaves(self) -> &'static [Leaf]
-        ensures { result.now ≡ row_leaves self }
-    {
-        match self {
-            Row::Attributes => &[Leaf::Number; 17],
-            Row::Settings => &[Leaf::Number; 8],
-            Row::Mapping => &[Leaf::Number; 4],
-            Row::Mount => &[Leaf::Text { most: 255 }, Leaf::Text { most: 1024 }],
-            Row::Entry => &[
-                Leaf::Number,
-                Leaf::Text { most: 255 },
-                Leaf::Fixed { len: 4 },
-            ],
-        }
-    }
-}
+const PATH: Form = Form::Quoted { most: 1024 };
 
-/// What stands behind a field's name.
-#[derive(Clone, Copy, Debug, PartialEq, Eq)]
-pub enum Shape {
-    One(Leaf),
-    /// In parentheses.
-    Row(Row),
-    /// In brackets, each row in parentheses.
-    List(Row),
-    /// Exports in brackets: in parentheses the path, and the names of the groups in brackets.
-    Exports,
-}
+const COOKIE: Form = Form::Fixed { len: 4 };
 
-/// A field of arguments or results. Its value has one shape wherever it stands.
+/// A word, and those behind it.
+const FOUR: Form = Form::Pair(
+    &Form::Number,
+    &Form::Pair(&Form::Number, &Form::Pair(&Form::Number, &Form::Number)),
+);
+
+const EIGHT: Form = Form::Pair(
+    &Form::Number,
+    &Form::Pair(
+        &Form::Number,
+        &Form::Pair(
+            &Form::Number,
+            &Form::Pair(
+                &Form::Number,
+                &Form::Pair(
+                    &Form::Number,
+                    &Form::Pair(&Form::Number, &Form::Pair(&Form::Number, &Form::Number)),
+                ),
+            ),
+        ),
+    ),
+);
+
+const SEVENTEEN: Form = Form::Pair(
+    &Form::Number,
+    &Form::Pair(
+        &Form::Number,
+        &Form::Pair(
+            &Form::Number,
+            &Form::Pair(
+                &Form::Number,
+                &Form::Pair(
+                    &Form::Number,
+                    &Form::Pair(
+                        &Form::Number,
+                        &Form::Pair(
+                            &Form::Number,
+                            &Form::Pair(
+                                &Form::Number,
+                                &Form::Pair(
+                                    &Form::Number,
+                                    &Form::Pair(
+                                        &Form::Number,
+                                        &Form::Pair(
+                                            &Form::Number,
+                                            &Form::Pair(
+                                                &Form::Number,
+                                                &Form::Pair(
+                                                    &Form::Number,
+                                                    &Form::Pair(
+                                                        &Form::Number,
+                                                        &Form::Pair(
+                                                            &Form::Number,
+                                                            &Form::Pair(
+                                                                &Form::Number,
+                                                                &Form::Number,
+                                                            ),
+                                                        ),
+                                                    ),
+                                                ),
+                                            ),
+                                        ),
+                                    ),
+                                ),
+                            ),
+                        ),
+                    ),
+                ),
+            ),
+        ),
+    ),
+);
+
+/// The attributes of a file, and those that are to be set.
+const ATTRIBUTES: Form = Form::Row(&SEVENTEEN);
+
+const SETTINGS: Form = Form::Row(&EIGHT);
+
+/// A mapping of the portmapper.
+const MAPPING: Form = Form::Row(&FOUR);
+
+/// A mount: host and path.
+const MOUNT: Form = Form::Row(&Form::Pair(&NAME, &PATH));
+
+/// An entry of a directory: number, name and cookie.
+const ENTRY: Form = Form::Row(&Form::Pair(&Form::Number, &Form::Pair(&NAME, &COOKIE)));
+
+/// An export: path and groups.
+const EXPORT: Form = Form::Row(&Form::Pair(&PATH, &Form::List(&NAME)));
+
+/// Lists of them.
+const MAPPINGS: Form = Form::List(&MAPPING);
+
+const MOUNTS: Form = Form::List(&MOUNT);
+
+const ENTRIES: Form = Form::List(&ENTRY);
+
+const EXPORTS: Form = Form::List(&EXPORT);
+
+/// A field of arguments or results. Its value has one form wherever it stands.
 #[derive(Clone, Copy, Debug, PartialEq, Eq)]
 pub enum Field {
     Address,
@@ -166,16 +208,16 @@ impl Field {
         }
     }
 
-    /// What stands behind its `=`.
-    pub fn shape(self) -> Shape
-        ensures { shape_form result ≡ field_form self }
+    /// The form of what stands behind its `=`.
+    pub fn form(self) -> Form
+        ensures { form_of result ≡ field_form self }
     {
         match self {
-            Field::Address | Field::Router => Shape::One(Leaf::Address),
-            Field::Args | Field::Results => Shape::One(Leaf::Run {
+            Field::Address | Field::Router => Form::Address,
+            Field::Args | Field::Results => Form::Run {
                 most: 4_294_967_295,
-            }),
-            Field::Attr => Shape::Row(Row::Attributes),
+            },
+            Field::Attr => ATTRIBUTES,
             Field::Bavail
             | Field::Begin
             | Field::Bfree
@@ -190,23 +232,20 @@ impl Field {
             | Field::Status
             | Field::Total
             | Field::Tsize
-            | Field::Vers => Shape::One(Leaf::Number),
-            Field::Bytes => Shape::One(Leaf::Run { most: 8192 }),
-            Field::Client | Field::Domain | Field::Named | Field::Server | Field::ToName =>
-                Shape::One(Leaf::Text { most: 255 }),
-            Field::Cookie => Shape::One(Leaf::Fixed { len: 4 }),
-            Field::Dir | Field::File | Field::From | Field::ToDir => Shape::One(Leaf::Fixed {
-                len: 32,
-            }),
-            Field::Entries => Shape::List(Row::Entry),
-            Field::Eof | Field::Ok => Shape::One(Leaf::Flag),
-            Field::Exports => Shape::Exports,
-            Field::Key => Shape::One(Leaf::Text { most: 32 }),
-            Field::Maps => Shape::List(Row::Mapping),
-            Field::Mounts => Shape::List(Row::Mount),
-            Field::Path => Shape::One(Leaf::Text { most: 1024 }),
-            Field::PortAnswer => Shape::One(Leaf::Port),
-            Field::Set => Shape::Row(Row::Settings),
+            | Field::Vers => Form::Number,
+            Field::Bytes => Form::Run { most: 8192 },
+            Field::Client | Field::Domain | Field::Named | Field::Server | Field::ToName => NAME,
+            Field::Cookie => COOKIE,
+            Field::Dir | Field::File | Field::From | Field::ToDir => Form::Fixed { len: 32 },
+            Field::Entries => ENTRIES,
+            Field::Eof | Field::Ok => Form::Flag,
+            Field::Exports => EXPORTS,
+            Field::Key => Form::Quoted { most: 32 },
+            Field::Maps => MAPPINGS,
+            Field::Mounts => MOUNTS,
+            Field::Path => PATH,
+            Field::PortAnswer => Form::Port,
+            Field::Set => SETTINGS,
         }
     }
 }

@@ -1,79 +1,80 @@
 //! The text of a RARP frame.
 
-ghost use Rattle.std.specs.Prelude.{◌≡◌, [], ◌∷◌, ◌++◌, codes, IfOk, OnOk};
-ghost use Rattle.sd_text.specs.Texts.{mac_text, ip_text};
-ghost use Rattle.sd_text.specs.Answers.{Takes};
-ghost use Rattle.sd_show.specs.Parts.{exact, mac_part, ip_part, kind_parts, frame_parts, parts_text};
-ghost use Rattle.sd_show.specs.Frames.{Follows, NamedMac, NamedIp, MacsStand, HostStands, RequestStands, ReplyStands, FrameStands};
-ghost use Rattle.sd_show.specs.Packing.{spaced, TakesParts};
+ghost use Rattle.std.specs.Prelude.{◌≡◌, ◌++◌, OnOk};
+ghost use Rattle.sd_bootparams.specs.Layout.{ip_value};
+ghost use Rattle.sd_text.specs.Kind as texts;
+ghost use Rattle.sd_text.specs.Kind.{said, given, mac, ip};
+ghost use Rattle.sd_text.specs.Grammar.{writes};
+ghost use Rattle.sd_text.specs.Reading.{Takes};
+ghost use Rattle.sd_show.specs.Lines.{macs, ends, host, request, response, frame, mac_value, macs_value, host_value, frame_value};
 
-use crate::pieces::Words;
-use crate::showing::push_word;
-use sd_outside::{ByteList, Mac, NoMemory};
+use sd_outside::{Mac, NoMemory};
 use sd_rarp::RarpFrame;
-use sd_text::{LineError, ip_list, read_ip, read_mac, same_text};
-use std::alloc::Global;
+use sd_text::{Class, LineError, TextReader, TextWriter, is_word};
 
 /// NAME=MAC
-fn push_mac(alloc: Global, text: &mut ByteList, name: &[u8], mac: Mac) -> Result<(), NoMemory>
-    ensures { OnOk result (text.new ≡ text.old ++ spaced (exact (name.now ++ mac_text mac) ∷ [])) }
+#[tactic(auto, unfolding(sd_text::specs::Grammar::writes))]
+fn push_mac(writer: &mut TextWriter, name: &[u8], address: &Mac) -> Result<(), NoMemory>
+    ensures { OnOk result (writer.new ≡ writer.old ++ writes (said name.now mac) (mac_value address.now)) }
 {
-    push_word(text, name)?;
-    text.push_slice(hex::encode(alloc, mac.0)?.as_bytes())
+    writer.said(name)?;
+    writer.mac(address)
 }
 
 /// NAME=IP
-fn push_ip(alloc: Global, text: &mut ByteList, name: &[u8], ip: u32) -> Result<(), NoMemory>
-    ensures { OnOk result (text.new ≡ text.old ++ spaced (exact (name.now ++ ip_text ip) ∷ [])) }
+#[tactic(auto, unfolding(sd_text::specs::Grammar::writes))]
+fn push_ip(writer: &mut TextWriter, name: &[u8], address: u32) -> Result<(), NoMemory>
+    ensures { OnOk result (writer.new ≡ writer.old ++ writes (said name.now ip) (ip_value address)) }
 {
-    push_word(text, name)?;
-    text.push_slice(ip_list(alloc, ip)?.as_slice())
+    writer.said(name)?;
+    writer.ip(address)
 }
 
 /// Two hardware addresses.
+#[tactic(auto, unfolding(sd_text::specs::Grammar::writes))]
 fn push_macs(
-    alloc: Global,
-    text: &mut ByteList,
-    first: &[u8],
-    mac: Mac,
-    second: &[u8],
-    other: Mac,
+    writer: &mut TextWriter,
+    name: &[u8],
+    address: &Mac,
+    other_name: &[u8],
+    other: &Mac,
 ) -> Result<(), NoMemory>
-    ensures { OnOk result (text.new ≡ text.old ++ spaced (mac_part first.now mac ∷ mac_part second.now other ∷ [])) }
+    ensures { OnOk result (writer.new ≡ writer.old ++ writes (macs name.now other_name.now) (macs_value (address.now, other.now))) }
 {
-    push_mac(alloc, text, first, mac)?;
-    push_mac(alloc, text, second, other)
+    push_mac(writer, name, address)?;
+    push_mac(writer, other_name, other)
 }
 
 /// A hardware address and a protocol address.
+#[tactic(auto, unfolding(sd_text::specs::Grammar::writes))]
 fn push_host(
-    alloc: Global,
-    text: &mut ByteList,
-    first: &[u8],
-    mac: Mac,
-    second: &[u8],
-    ip: u32,
+    writer: &mut TextWriter,
+    name: &[u8],
+    address: &Mac,
+    ip_name: &[u8],
+    host_ip: u32,
 ) -> Result<(), NoMemory>
-    ensures { OnOk result (text.new ≡ text.old ++ spaced (mac_part first.now mac ∷ ip_part second.now ip ∷ [])) }
+    ensures { OnOk result (writer.new ≡ writer.old ++ writes (host name.now ip_name.now) (host_value (address.now, host_ip))) }
 {
-    push_mac(alloc, text, first, mac)?;
-    push_ip(alloc, text, second, ip)
+    push_mac(writer, name, address)?;
+    push_ip(writer, ip_name, host_ip)
 }
 
 /// What follows `rarp`.
-fn push_kind(alloc: Global, text: &mut ByteList, frame: &RarpFrame) -> Result<(), NoMemory>
-    ensures { OnOk result (text.new ≡ text.old ++ spaced (kind_parts frame.now)) }
+#[tactic(auto, unfolding(sd_text::specs::Grammar::writes))]
+pub fn push_frame(writer: &mut TextWriter, packet: &RarpFrame) -> Result<(), NoMemory>
+    ensures { OnOk result (writer.new ≡ writer.old ++ writes frame (frame_value packet.now)) }
 {
-    match *frame {
+    match packet {
         RarpFrame::Request {
             dst,
             src,
             sender,
             target,
         } => {
-            push_word(text, b"request")?;
-            push_macs(alloc, text, b"dst=", dst, b"src=", src)?;
-            push_macs(alloc, text, b"sender=", sender, b"target=", target)
+            writer.said(b"request")?;
+            push_macs(writer, b" dst=", dst, b" src=", src)?;
+            push_macs(writer, b" sender=", sender, b" target=", target)
         }
         RarpFrame::Reply {
             dst,
@@ -83,92 +84,68 @@ fn push_kind(alloc: Global, text: &mut ByteList, frame: &RarpFrame) -> Result<()
             target,
             target_ip,
         } => {
-            push_word(text, b"reply")?;
-            push_macs(alloc, text, b"dst=", dst, b"src=", src)?;
-            push_host(alloc, text, b"sender=", sender, b"sender_ip=", sender_ip)?;
-            push_host(alloc, text, b"target=", target, b"target_ip=", target_ip)
+            writer.said(b"reply")?;
+            push_macs(writer, b" dst=", dst, b" src=", src)?;
+            push_host(writer, b" sender=", sender, b" sender_ip=", *sender_ip)?;
+            push_host(writer, b" target=", target, b" target_ip=", *target_ip)
         }
     }
 }
 
-/// rarp request dst=MAC src=MAC sender=MAC target=MAC, or
-/// rarp reply dst=MAC src=MAC sender=MAC sender_ip=IP target=MAC target_ip=IP
-pub fn frame_text(alloc: Global, frame: &RarpFrame) -> Result<ByteList, NoMemory>
-    ensures { IfOk result (λ text. text ≡ parts_text (frame_parts frame.now)) }
-{
-    let mut text = ByteList::from_slice(alloc, b"rarp")?;
-    push_kind(alloc, &mut text, frame)?;
-    Ok(text)
-}
-
-/// What stands behind a name.
-fn after_name<'a>(text: &'a [u8], name: &[u8]) -> Option<&'a [u8]>
-    ensures { Follows name.now text.now result }
-{
-    let len = name.len();
-    if text.len() < len {
-        return None;
-    }
-    if same_text(&text[..len], name) {
-        Some(&text[len..])
-    } else {
-        None
-    }
-}
-
 /// NAME=MAC
-fn take_mac(fields: &mut Words<'_>, name: &[u8]) -> Result<Mac, LineError>
-    ensures { Takes (NamedMac name.now) fields.old fields.new result }
+#[tactic(auto, unfolding(sd_text::specs::Reading::reading))]
+fn take_mac(reader: &mut TextReader, name: &[u8]) -> Result<Mac, LineError>
+    ensures { Takes (said name.now mac) mac_value reader.old reader.new result }
 {
-    let Some(text) = fields.next() else {
-        return Err(LineError::Outside);
-    };
-    let Some(digits) = after_name(text, name) else {
-        return Err(LineError::Outside);
-    };
-    match read_mac(digits) {
-        Some(mac) => Ok(mac),
-        None => Err(LineError::Outside),
-    }
+    reader.said(name)?;
+    reader.mac()
 }
 
 /// NAME=IP
-fn take_ip(fields: &mut Words<'_>, name: &[u8]) -> Result<u32, LineError>
-    ensures { Takes (NamedIp name.now) fields.old fields.new result }
+#[tactic(auto, unfolding(sd_text::specs::Reading::reading))]
+fn take_ip(reader: &mut TextReader, name: &[u8]) -> Result<u32, LineError>
+    ensures { Takes (said name.now ip) ip_value reader.old reader.new result }
 {
-    let Some(text) = fields.next() else {
-        return Err(LineError::Outside);
-    };
-    let Some(numbers) = after_name(text, name) else {
-        return Err(LineError::Outside);
-    };
-    Ok(read_ip(numbers)?)
+    reader.said(name)?;
+    reader.ip()
 }
 
 /// Two hardware addresses.
-fn take_macs(fields: &mut Words<'_>, first: &[u8], second: &[u8]) -> Result<(Mac, Mac), LineError>
-    ensures { TakesParts (MacsStand first.now second.now) fields.old fields.new result }
+#[tactic(auto, unfolding(sd_text::specs::Reading::reading))]
+fn take_macs(reader: &mut TextReader, name: &[u8], other: &[u8]) -> Result<(Mac, Mac), LineError>
+    ensures { Takes (macs name.now other.now) macs_value reader.old reader.new result }
 {
-    let one = take_mac(fields, first)?;
-    let other = take_mac(fields, second)?;
-    Ok((one, other))
+    let first = take_mac(reader, name)?;
+    let second = take_mac(reader, other)?;
+    Ok((first, second))
+}
+
+/// The ends of a frame.
+#[tactic(auto, unfolding(sd_text::specs::Reading::reading))]
+fn take_ends(reader: &mut TextReader) -> Result<(Mac, Mac), LineError>
+    ensures { Takes ends macs_value reader.old reader.new result }
+{
+    let (dst, src) = take_macs(reader, b" dst=", b" src=")?;
+    Ok((dst, src))
 }
 
 /// A hardware address and a protocol address.
-fn take_host(fields: &mut Words<'_>, first: &[u8], second: &[u8]) -> Result<(Mac, u32), LineError>
-    ensures { TakesParts (HostStands first.now second.now) fields.old fields.new result }
+#[tactic(auto, unfolding(sd_text::specs::Reading::reading))]
+fn take_host(reader: &mut TextReader, name: &[u8], ip_name: &[u8]) -> Result<(Mac, u32), LineError>
+    ensures { Takes (host name.now ip_name.now) host_value reader.old reader.new result }
 {
-    let mac = take_mac(fields, first)?;
-    let ip = take_ip(fields, second)?;
-    Ok((mac, ip))
+    let mac = take_mac(reader, name)?;
+    let address = take_ip(reader, ip_name)?;
+    Ok((mac, address))
 }
 
 /// What follows `rarp request`.
-fn take_request(fields: &mut Words<'_>) -> Result<RarpFrame, LineError>
-    ensures { TakesParts RequestStands fields.old fields.new result }
+#[tactic(auto, unfolding(sd_text::specs::Reading::reading))]
+fn take_request(reader: &mut TextReader) -> Result<RarpFrame, LineError>
+    ensures { Takes (given 0 request) frame_value reader.old reader.new result }
 {
-    let (dst, src) = take_macs(fields, b"dst=", b"src=")?;
-    let (sender, target) = take_macs(fields, b"sender=", b"target=")?;
+    let (dst, src) = take_ends(reader)?;
+    let (sender, target) = take_macs(reader, b" sender=", b" target=")?;
     Ok(RarpFrame::Request {
         dst,
         src,
@@ -178,12 +155,13 @@ fn take_request(fields: &mut Words<'_>) -> Result<RarpFrame, LineError>
 }
 
 /// What follows `rarp reply`.
-fn take_reply(fields: &mut Words<'_>) -> Result<RarpFrame, LineError>
-    ensures { TakesParts ReplyStands fields.old fields.new result }
+#[tactic(auto, unfolding(sd_text::specs::Reading::reading))]
+fn take_response(reader: &mut TextReader) -> Result<RarpFrame, LineError>
+    ensures { Takes (given 1 response) frame_value reader.old reader.new result }
 {
-    let (dst, src) = take_macs(fields, b"dst=", b"src=")?;
-    let (sender, sender_ip) = take_host(fields, b"sender=", b"sender_ip=")?;
-    let (target, target_ip) = take_host(fields, b"target=", b"target_ip=")?;
+    let (dst, src) = take_ends(reader)?;
+    let (sender, sender_ip) = take_host(reader, b" sender=", b" sender_ip=")?;
+    let (target, target_ip) = take_host(reader, b" target=", b" target_ip=")?;
     Ok(RarpFrame::Reply {
         dst,
         src,
@@ -195,17 +173,17 @@ fn take_reply(fields: &mut Words<'_>) -> Result<RarpFrame, LineError>
 }
 
 /// What follows `rarp`.
-pub fn take_frame(fields: &mut Words<'_>) -> Result<RarpFrame, LineError>
-    ensures { TakesParts FrameStands fields.old fields.new result }
+#[tactic(auto, unfolding(sd_text::specs::Reading::reading, sd_text::specs::Reading::name_reading))]
+pub fn take_frame(reader: &mut TextReader) -> Result<RarpFrame, LineError>
+    ensures { Takes (texts.spaced frame) frame_value reader.old reader.new result }
 {
-    let Some(word) = fields.next() else {
-        return Err(LineError::Outside);
-    };
-    if same_text(word, b"request") {
-        return Ok(take_request(fields)?);
+    reader.said(b" ")?;
+    let word = reader.front(Class::Name);
+    if is_word(word, b"request") {
+        return Ok(take_request(reader)?);
     }
-    if !same_text(word, b"reply") {
-        return Err(LineError::Outside);
+    if is_word(word, b"reply") {
+        return Ok(take_response(reader)?);
     }
-    Ok(take_reply(fields)?)
+    Err(LineError::Outside)
 }

@@ -2,28 +2,26 @@
 
 ghost use Rattle.std.specs.Prelude.{◌≡◌, [], IsTrue, IsFalse, IfOk, IfErr, OnOk, OnErr};
 ghost use Rattle.sd_outside.specs.declared.packet.Packet.TheVariants.{Udp};
-ghost use Rattle.sd_rpc_msg.specs.Layout.{MessageFits};
 ghost use Rattle.sd_text.specs.Answers.{Reads};
-ghost use Rattle.sd_show.specs.Parts.{parts_text};
-ghost use Rattle.sd_show.specs.Messages.{datagram_parts};
+ghost use Rattle.sd_text.specs.Grammar.{writes};
+ghost use Rattle.sd_show.specs.Lines.{line, frame_line};
 ghost use Rattle.sd_show.specs.Shown.{is_tftp_port, is_tftp, ShowsFile, ShowsMessage, Shows, Hears, Packs};
 ghost use Rattle.sd_show.specs.Refused.{IsRefused, IsNotPacked};
-ghost use Rattle.sd_show.specs.Packing.{IsDatagramOf, IsDatagramText, IsFileText, IsMessageText, IsFrameText, IsPacketText};
-ghost use Rattle.sd_show.specs.Showing.{IsFileRefused, IsMessageNotShown, IsAskedOf, content_length, PlaceFits, moved};
+ghost use Rattle.sd_show.specs.Packing.{carried_bytes, is_file, IsDatagram, CarriedFits, LineFits, IsPacketOf};
+ghost use Rattle.sd_show.specs.Showing.{datagram_head, IsFileRefused, IsMessageNotShown, IsAskedOf, content_length, PlaceFits, moved};
 
 use crate::calls::Seen;
 use crate::error::{ShowError, Word};
-use crate::files::{push_file, take_file};
-use crate::frames::{frame_text, take_frame};
-use crate::packing::take_message;
-use crate::pieces::{Words, take_addr, take_end, take_next};
+use crate::files::push_file;
+use crate::frames::push_frame;
+use crate::lines::{Carried, Line, read_line};
 use crate::procedures::{Known, known_by_numbers};
-use crate::showing::{push_message, push_word};
+use crate::showing::push_message;
 use crate::taking::LONGEST;
 use sd_outside::{Addr, ByteList, NoMemory, Packet};
-use sd_rarp::{read_frame, write_frame};
+use sd_rarp::{RarpFrame, read_frame, write_frame};
 use sd_rpc_msg::{Message, Outcome, read_message, write_message};
-use sd_text::{LineError, addr_list, same_text};
+use sd_text::{LineError, TextWriter};
 use sd_tftp::{TFTP_PORT, read_packet, write_packet};
 use std::alloc::Global;
 
@@ -41,13 +39,17 @@ fn is_tftp(src: Addr, dst: Addr) -> bool
 }
 
 /// udp ADDR ADDR
-fn head_text(alloc: Global, src: Addr, dst: Addr) -> Result<ByteList, NoMemory>
-    ensures { IfOk result (λ text. text ≡ parts_text (datagram_parts src dst [])) }
+#[tactic(auto, unfolding(sd_text::specs::Grammar::writes))]
+fn start_datagram(alloc: Global, src: Addr, dst: Addr) -> Result<TextWriter, NoMemory>
+    ensures { IfOk result (λ text. text ≡ datagram_head src dst) }
 {
-    let mut text = ByteList::from_slice(alloc, b"udp")?;
-    push_word(&mut text, addr_list(alloc, src)?.as_slice())?;
-    push_word(&mut text, addr_list(alloc, dst)?.as_slice())?;
-    Ok(text)
+    let mut writer = TextWriter::new(alloc);
+    writer.said(b"udp ")?;
+    writer.addr(src)?;
+    writer.said(b" ")?;
+    writer.addr(dst)?;
+    writer.said(b" ")?;
+    Ok(writer)
 }
 
 /// The text of a datagram of TFTP.
@@ -57,10 +59,10 @@ fn show_file(alloc: Global, src: Addr, dst: Addr, body: &[u8]) -> Result<ByteLis
     ensures refused { IfErr result (IsFileRefused src dst body.now) }
 {
     let packet = read_packet(alloc, body)?;
-    let mut text = head_text(alloc, src, dst)?;
-    push_word(&mut text, b"tftp")?;
-    push_file(alloc, &mut text, &packet)?;
-    Ok(text)
+    let mut writer = start_datagram(alloc, src, dst)?;
+    writer.said(b"tftp ")?;
+    push_file(&mut writer, &packet)?;
+    Ok(writer.finish())
 }
 
 /// What the call of a reply asked for, where that call was seen and is for a procedure that is known by name.
@@ -118,16 +120,27 @@ fn show_message(
     ensures kept { OnErr result (seen.new ≡ seen.old) }
 {
     let message = read_message(alloc, body)?;
-    let mut text = head_text(alloc, src, dst)?;
+    let mut writer = start_datagram(alloc, src, dst)?;
     let asked = asked_of(seen, src, dst, &message);
-    match push_message(alloc, &mut text, &message, asked) {
+    match push_message(&mut writer, &message, asked) {
         Ok(()) => {}
         Err(error) => return Err(moved(error.into(), body.len() - content_len(&message))),
     }
     if let Message::Asked(call) = &message {
         seen.hear(src, dst, call)?;
     }
-    Ok(text)
+    Ok(writer.finish())
+}
+
+/// The text of a frame.
+#[tactic(auto, unfolding(sd_text::specs::Grammar::writes))]
+fn frame_text(alloc: Global, frame: &RarpFrame) -> Result<ByteList, NoMemory>
+    ensures { IfOk result (λ text. text ≡ writes line (frame_line frame.now)) }
+{
+    let mut writer = TextWriter::new(alloc);
+    writer.said(b"rarp ")?;
+    push_frame(&mut writer, frame)?;
+    Ok(writer.finish())
 }
 
 /// The text of a packet, behind the calls that earlier ones held. It is refused with the word and the place of the first refusal in
@@ -153,98 +166,63 @@ pub fn show_line(alloc: Global, seen: &mut Seen, packet: &Packet) -> Result<Byte
     }
 }
 
-/// The datagram of a message.
-fn datagram_of(alloc: Global, src: Addr, dst: Addr, message: &Message) -> Result<Packet, LineError>
-    requires { MessageFits message.now }
-    ensures { Reads (IsDatagramOf src dst message.now) result }
+/// The datagram with these bytes, where it has room for them.
+fn datagram_of(src: Addr, dst: Addr, body: ByteList) -> Option<Packet>
+    ensures { IsDatagram src dst body result }
 {
-    if is_tftp(src, dst) {
-        return Err(LineError::Outside);
-    }
-    let body = write_message(alloc, message)?;
     if body.as_slice().len() > LONGEST {
-        return Err(LineError::Outside);
+        return None;
     }
-    Ok(Packet::Udp { src, dst, body })
+    Some(Packet::Udp { src, dst, body })
 }
 
-/// What follows `tftp`.
-fn read_file(
-    alloc: Global,
-    mut fields: Words<'_>,
-    src: Addr,
-    dst: Addr,
-) -> Result<Packet, LineError>
-    ensures { Reads (IsFileText src dst fields.entry) result }
+/// The bytes that a datagram of this carries.
+fn carried_bytes(alloc: Global, carried: &Carried) -> Result<ByteList, NoMemory>
+    requires { CarriedFits carried.now }
+    ensures { IfOk result (λ bytes. bytes ≡ carried_bytes carried.now) }
 {
-    let packet = take_file(alloc, &mut fields)?;
-    take_end(&mut fields)?;
-    if !is_tftp(src, dst) {
-        return Err(LineError::Outside);
-    }
-    let content = write_packet(alloc, &packet)?;
-    if content.as_slice().len() > LONGEST {
-        return Err(LineError::Outside);
-    }
-    Ok(Packet::Udp {
-        src,
-        dst,
-        body: content,
-    })
-}
-
-/// What follows `call` or `reply`, with that word.
-fn read_rpc(
-    alloc: Global,
-    mut fields: Words<'_>,
-    word: &[u8],
-    src: Addr,
-    dst: Addr,
-) -> Result<Packet, LineError>
-    ensures { Reads (IsMessageText src dst word.now fields.entry) result }
-{
-    let message = take_message(alloc, &mut fields, word)?;
-    take_end(&mut fields)?;
-    datagram_of(alloc, src, dst, &message)
-}
-
-/// What follows `udp`.
-fn read_datagram(alloc: Global, mut fields: Words<'_>) -> Result<Packet, LineError>
-    ensures { Reads (IsDatagramText fields.entry) result }
-{
-    let src = take_addr(&mut fields)?;
-    let dst = take_addr(&mut fields)?;
-    let word = take_next(&mut fields)?;
-    if same_text(word, b"tftp") {
-        read_file(alloc, fields, src, dst)
-    } else {
-        read_rpc(alloc, fields, word, src, dst)
+    match carried {
+        Carried::File(packet) => write_packet(alloc, packet),
+        Carried::Rpc(text) => write_message(alloc, &text.message),
     }
 }
 
-/// What follows `rarp`.
-fn read_rarp(alloc: Global, mut fields: Words<'_>) -> Result<Packet, LineError>
-    ensures { Reads (IsFrameText fields.entry) result }
+/// Whether this is a packet of TFTP.
+fn is_file(carried: &Carried) -> bool
+    ensures { result ≡ is_file carried.now }
 {
-    let frame = take_frame(&mut fields)?;
-    take_end(&mut fields)?;
-    let bytes = ByteList::from_slice(alloc, &write_frame(&frame))?;
-    Ok(Packet::Frame(bytes))
+    match carried {
+        Carried::File(_) => true,
+        Carried::Rpc(_) => false,
+    }
 }
 
-fn read_text(alloc: Global, mut fields: Words<'_>) -> Result<Packet, LineError>
-    ensures { Reads (IsPacketText fields.entry) result }
+/// The packet that a line says.
+fn packet_of(alloc: Global, line: &Line) -> Result<Packet, LineError>
+    requires { LineFits line.now }
+    ensures { Reads (IsPacketOf line.now) result }
 {
-    let Some(first) = fields.next() else {
-        return Err(LineError::Outside);
-    };
-    if same_text(first, b"udp") {
-        read_datagram(alloc, fields)
-    } else if same_text(first, b"rarp") {
-        read_rarp(alloc, fields)
-    } else {
-        Err(LineError::Outside)
+    match line {
+        Line::Datagram { src, dst, carried } => {
+            if is_tftp(*src, *dst) != is_file(carried) {
+                return Err(LineError::Outside);
+            }
+            let bytes = carried_bytes(alloc, carried)?;
+            match datagram_of(*src, *dst, bytes) {
+                Some(packet) => Ok(packet),
+                None => Err(LineError::Outside),
+            }
+        }
+        Line::Rarp(frame) => Ok(Packet::Frame(ByteList::from_slice(alloc, &write_frame(frame))?)),
     }
+}
+
+/// The packet of a text.
+fn read_text(alloc: Global, text: &[u8]) -> Result<Packet, LineError>
+    ensures { Reads (Packs text.now) result }
+{
+    let line = read_line(alloc, text)?;
+    packet_of(alloc, &line)
 }
 
 /// The packet of which this is the text, where byte runs may be split in any way. It is refused with `line` at 0.
@@ -252,7 +230,7 @@ pub fn pack_line(alloc: Global, text: &[u8]) -> Result<Packet, ShowError>
     ensures packs { IfOk result (Packs text.now) }
     ensures refused { IfErr result (IsNotPacked text.now) }
 {
-    match read_text(alloc, Words::new(text, b' ')) {
+    match read_text(alloc, text) {
         Ok(packet) => Ok(packet),
         Err(LineError::Outside) => Err(ShowError::Bad {
             word: Word::Line,

@@ -1,58 +1,75 @@
 //! Reading the text of a message.
 
-ghost use Rattle.std.specs.Prelude.{◌≡◌, codes};
-ghost use Rattle.sd_text.specs.Answers.{Reads, Takes};
-ghost use Rattle.sd_show.specs.Packing.{TakesParts, TakesWord, BodyStands, AuthStands, IsProcedure, AskedStands, CallStands, AuthsStand, RawStands, KnownStands, RangeStands, StateStands, AcceptedStands, OutcomeStands, ReplyStands, MessageStands};
+ghost use Rattle.std.specs.Prelude.{◌≡◌, ◌+◌, codes, IfOk, IsTrue};
+ghost use Rattle.sd_xdr.specs.Kind.{number, bytes, ◌⊗◌};
+ghost use Rattle.sd_rpc_msg.specs.Layout.{auth_value};
+ghost use Rattle.sd_text.specs.Kind as texts;
+ghost use Rattle.sd_text.specs.Kind.{any, word, digits, said, given, ◌&◌};
+ghost use Rattle.sd_text.specs.Reading.{Takes};
+ghost use Rattle.sd_show.specs.Fields.{fields_text};
+ghost use Rattle.sd_show.specs.Programs.{args_kind, results_kind, args, results, IsUnknown};
+ghost use Rattle.sd_show.specs.Messages.{no_body};
+ghost use Rattle.sd_show.specs.Lines.{place, auth, content, procedure, procedure_value, is_other, other, named, asked, auths, call, range, states, raw, done, answer, outcome, reply, outcome_value, carries_message, carried_arm};
+ghost use Rattle.sd_show.specs.Packing.{value_in, AreWritten, asked_told, IsAskedWritten, state_told, outcome_told, IsOutcomeWritten, message_told, IsMessageWritten};
 
-use crate::pieces::{Words, take_next, take_number, take_runs};
 use crate::procedures::{Known, Procedure, known_by_name, known_by_numbers};
-use crate::programs::{asked, results as result_fields};
-use crate::taking::{GREATEST, LONGEST, take_fields, take_results};
+use crate::programs::{args, results};
+use crate::taking::{LONGEST, take_fields, take_word};
 use sd_outside::ByteList;
 use sd_rpc_msg::{Call, Message, OpaqueAuth, Outcome, Reply};
-use sd_text::{LineError, Parts, only_number, same_text};
+use sd_text::{Class, LineError, TextReader, is_word};
 use sd_xdr::XdrWriter;
 use std::alloc::Global;
 
-/// A word that stands as it is.
-fn take_word(fields: &mut Words<'_>, word: &[u8]) -> Result<(), LineError>
-    ensures { TakesWord word.now fields.old fields.new result }
+/// The greatest word.
+const GREATEST: u32 = 4_294_967_295;
+
+/// A word behind a fixed text.
+#[tactic(auto, unfolding(sd_text::specs::Reading::reading))]
+fn take_number(reader: &mut TextReader, front: &[u8]) -> Result<u32, LineError>
+    ensures { Takes (said front.now any) number reader.old reader.new result }
 {
-    let Some(text) = fields.next() else {
-        return Err(LineError::Outside);
-    };
-    if same_text(text, word) {
-        Ok(())
-    } else {
-        Err(LineError::Outside)
-    }
+    reader.said(front)?;
+    take_word(reader, GREATEST)
 }
 
-/// FLAVOR BYTES
-fn take_body(alloc: Global, fields: &mut Words<'_>) -> Result<OpaqueAuth, LineError>
-    ensures { TakesParts BodyStands fields.old fields.new result }
+/// Bytes that aren't read, behind a fixed text.
+#[tactic(auto, unfolding(sd_text::specs::Reading::reading))]
+fn take_bytes(alloc: Global, reader: &mut TextReader, front: &[u8]) -> Result<ByteList, LineError>
+    ensures { Takes (said front.now content) bytes reader.old reader.new result }
 {
-    let flavor = take_number(fields, 0, GREATEST)? as u32;
-    let body = take_runs(alloc, fields, 400)?;
+    reader.said(front)?;
+    Ok(reader.run(alloc, 0, LONGEST)?)
+}
+
+/// The body of an authentication.
+#[tactic(auto, unfolding(sd_text::specs::Reading::reading))]
+fn take_body(alloc: Global, reader: &mut TextReader) -> Result<ByteList, LineError>
+    ensures { Takes (texts.spaced (word (texts.run 0 400))) bytes reader.old reader.new result }
+{
+    reader.said(b" ")?;
+    Ok(reader.run(alloc, 0, 400)?)
+}
+
+/// FLAVOR BYTES, behind a fixed text.
+#[tactic(auto, unfolding(sd_text::specs::Reading::reading))]
+fn take_auth(alloc: Global, reader: &mut TextReader, front: &[u8]) -> Result<OpaqueAuth, LineError>
+    ensures { Takes (said front.now auth) auth_value reader.old reader.new result }
+{
+    reader.said(front)?;
+    let flavor = take_word(reader, GREATEST)?;
+    let body = take_body(alloc, reader)?;
     Ok(OpaqueAuth { flavor, body })
 }
 
-/// NAME FLAVOR BYTES
-fn take_auth(alloc: Global, fields: &mut Words<'_>, name: &[u8]) -> Result<OpaqueAuth, LineError>
-    ensures { TakesParts (AuthStands name.now) fields.old fields.new result }
+/// PROG/VERS/PROC
+#[tactic(auto, unfolding(sd_text::specs::Reading::reading))]
+fn take_procedure(reader: &mut TextReader) -> Result<Procedure, LineError>
+    ensures { Takes procedure procedure_value reader.old reader.new result }
 {
-    take_word(fields, name)?;
-    Ok(take_body(alloc, fields)?)
-}
-
-/// The procedure of which this is the text.
-fn read_procedure(text: &[u8]) -> Result<Procedure, LineError>
-    ensures { Reads (IsProcedure text.now) result }
-{
-    let mut parts = Parts::new(text, b'/');
-    let prog = sd_text::take_number(&mut parts, 0, GREATEST)? as u32;
-    let vers = sd_text::take_number(&mut parts, 0, GREATEST)? as u32;
-    let proc_no = only_number(parts, 0, GREATEST)? as u32;
+    let prog = take_word(reader, GREATEST)?;
+    let vers = take_number(reader, b"/")?;
+    let proc_no = take_number(reader, b"/")?;
     Ok(Procedure {
         prog,
         vers,
@@ -60,170 +77,320 @@ fn read_procedure(text: &[u8]) -> Result<Procedure, LineError>
     })
 }
 
-/// What a call asks for, and its arguments: PROG.PROC FIELDS, or PROG/VERS/PROC BYTES for another procedure.
-fn take_asked(alloc: Global, fields: &mut Words<'_>) -> Result<(Procedure, ByteList), LineError>
-    ensures { TakesParts AskedStands fields.old fields.new result }
+/// What a call asks for, with its arguments. A procedure that stands by its name is known.
+#[derive(Debug, Drop)]
+pub struct AskedText {
+    pub known: Option<Known>,
+    pub procedure: Procedure,
+    pub args: ByteList,
+}
+
+/// Whether a procedure isn't known by name.
+fn is_other(procedure: Procedure) -> bool
+    ensures is { result ≡ is_other (procedure_value procedure) }
+    ensures unknown { IsTrue result → IsUnknown procedure }
 {
-    let text = take_next(fields)?;
-    match known_by_name(text) {
-        Some(known) => {
-            let mut writer = XdrWriter::new(alloc);
-            take_fields(alloc, &mut writer, fields, asked(known))?;
-            Ok((known.numbers(), writer.finish()))
-        }
-        None => {
-            let procedure = read_procedure(text)?;
-            if known_by_numbers(procedure).is_some() {
-                return Err(LineError::Outside);
-            }
-            Ok((procedure, take_runs(alloc, fields, LONGEST)?))
-        }
+    known_by_numbers(procedure).is_none()
+}
+
+/// PROG/VERS/PROC BYTES, of a procedure that isn't known by name.
+#[tactic(auto, unfolding(sd_text::specs::Reading::reading))]
+fn take_other(alloc: Global, reader: &mut TextReader) -> Result<AskedText, LineError>
+    ensures takes { Takes (given 0 other) asked_told reader.old reader.new result }
+    ensures written { IfOk result IsAskedWritten }
+{
+    let procedure = take_procedure(reader)?;
+    if !is_other(procedure) {
+        return Err(LineError::Outside);
     }
-}
-
-/// cred FLAVOR BYTES verf FLAVOR BYTES
-fn take_auths(alloc: Global, fields: &mut Words<'_>) -> Result<(OpaqueAuth, OpaqueAuth), LineError>
-    ensures { TakesParts AuthsStand fields.old fields.new result }
-{
-    let cred = take_auth(alloc, fields, b"cred")?;
-    let verf = take_auth(alloc, fields, b"verf")?;
-    Ok((cred, verf))
-}
-
-/// XID, what is asked, cred FLAVOR BYTES verf FLAVOR BYTES
-fn take_call(alloc: Global, fields: &mut Words<'_>) -> Result<Call, LineError>
-    ensures { TakesParts CallStands fields.old fields.new result }
-{
-    let xid = take_number(fields, 0, GREATEST)? as u32;
-    let (procedure, args) = take_asked(alloc, fields)?;
-    let (cred, verf) = take_auths(alloc, fields)?;
-    Ok(Call {
-        xid,
-        prog: procedure.prog,
-        vers: procedure.vers,
-        proc_no: procedure.proc_no,
-        cred,
-        verf,
+    let args = take_bytes(alloc, reader, b" ")?;
+    Ok(AskedText {
+        known: None,
+        procedure,
         args,
     })
 }
 
-/// verf FLAVOR BYTES success FIELDS
-fn take_known(
-    alloc: Global,
-    fields: &mut Words<'_>,
-    known: Known,
-) -> Result<(OpaqueAuth, ByteList), LineError>
-    ensures { TakesParts (KnownStands known) fields.old fields.new result }
+/// The fields of a procedure's arguments, as their bytes.
+fn take_args(alloc: Global, reader: &mut TextReader, known: Known) -> Result<ByteList, LineError>
+    ensures takes { Takes (fields_text (args known)) (value_in (args_kind known)) reader.old reader.new result }
+    ensures written { IfOk result (AreWritten (args_kind known)) }
 {
-    let verf = take_auth(alloc, fields, b"verf")?;
-    take_word(fields, b"success")?;
     let mut writer = XdrWriter::new(alloc);
-    take_results(alloc, &mut writer, fields, result_fields(known))?;
-    Ok((verf, writer.finish()))
+    take_fields(alloc, reader, &mut writer, &args(known))?;
+    Ok(writer.finish())
 }
 
-/// verf FLAVOR BYTES success BYTES
-fn take_raw(alloc: Global, fields: &mut Words<'_>) -> Result<(OpaqueAuth, ByteList), LineError>
-    ensures { TakesParts RawStands fields.old fields.new result }
+/// The fields of a procedure's results, as their bytes.
+fn take_results(alloc: Global, reader: &mut TextReader, known: Known) -> Result<ByteList, LineError>
+    ensures takes { Takes (fields_text (results known)) (value_in (results_kind known)) reader.old reader.new result }
+    ensures written { IfOk result (AreWritten (results_kind known)) }
 {
-    let verf = take_auth(alloc, fields, b"verf")?;
-    take_word(fields, b"success")?;
-    let results = take_runs(alloc, fields, LONGEST)?;
-    Ok((verf, results))
+    let mut writer = XdrWriter::new(alloc);
+    take_fields(alloc, reader, &mut writer, &results(known))?;
+    Ok(writer.finish())
+}
+
+/// PROG.PROC FIELDS
+#[tactic(auto, unfolding(sd_text::specs::Reading::reading, sd_text::specs::Reading::name_reading), using(crate::proofs::Knowing::named_back))]
+fn take_named(alloc: Global, reader: &mut TextReader) -> Result<AskedText, LineError>
+    ensures takes { Takes (given 1 named) asked_told reader.old reader.new result }
+    ensures written { IfOk result IsAskedWritten }
+{
+    let word = reader.front(Class::Name);
+    let Some(known) = known_by_name(word) else {
+        return Err(LineError::Outside);
+    };
+    let args = take_args(alloc, reader, known)?;
+    Ok(AskedText {
+        known: Some(known),
+        procedure: known.numbers(),
+        args,
+    })
+}
+
+/// What a call asks for.
+#[tactic(auto, unfolding(sd_text::specs::Reading::reading))]
+fn take_asked(alloc: Global, reader: &mut TextReader) -> Result<AskedText, LineError>
+    ensures takes { Takes (texts.spaced asked) asked_told reader.old reader.new result }
+    ensures written { IfOk result IsAskedWritten }
+{
+    reader.said(b" ")?;
+    if reader.begins_digit() {
+        return Ok(take_other(alloc, reader)?);
+    }
+    Ok(take_named(alloc, reader)?)
+}
+
+/// cred FLAVOR BYTES verf FLAVOR BYTES
+#[tactic(auto, unfolding(sd_text::specs::Reading::reading))]
+fn take_auths(alloc: Global, reader: &mut TextReader) -> Result<(OpaqueAuth, OpaqueAuth), LineError>
+    ensures { Takes auths (λ a. auth_value a.0 ⊗ auth_value a.1) reader.old reader.new result }
+{
+    let cred = take_auth(alloc, reader, b" cred ")?;
+    let verf = take_auth(alloc, reader, b" verf ")?;
+    Ok((cred, verf))
+}
+
+/// A message, and the procedure that stands in it by name.
+#[derive(Debug, Drop)]
+pub struct MessageText {
+    pub message: Message,
+    pub known: Option<Known>,
+}
+
+/// What follows `call`.
+#[tactic(auto, unfolding(sd_text::specs::Reading::reading))]
+pub fn take_call(alloc: Global, reader: &mut TextReader) -> Result<MessageText, LineError>
+    ensures takes { Takes (given 1 (texts.spaced call)) message_told reader.old reader.new result }
+    ensures written { IfOk result IsMessageWritten }
+{
+    let xid = take_number(reader, b" ")?;
+    let asked = take_asked(alloc, reader)?;
+    let (cred, verf) = take_auths(alloc, reader)?;
+    let procedure = asked.procedure;
+    Ok(MessageText {
+        message: Message::Asked(Call {
+            xid,
+            prog: procedure.prog,
+            vers: procedure.vers,
+            proc_no: procedure.proc_no,
+            cred,
+            verf,
+            args: asked.args,
+        }),
+        known: asked.known,
+    })
 }
 
 /// LOW HIGH
-fn take_range(fields: &mut Words<'_>) -> Result<(u32, u32), LineError>
-    ensures { TakesParts RangeStands fields.old fields.new result }
+#[tactic(auto, unfolding(sd_text::specs::Reading::reading))]
+fn take_range(reader: &mut TextReader) -> Result<(u32, u32), LineError>
+    ensures { Takes range (λ r. number r.0 ⊗ number r.1) reader.old reader.new result }
 {
-    let low = take_number(fields, 0, GREATEST)? as u32;
-    let high = take_number(fields, 0, GREATEST)? as u32;
+    let low = take_number(reader, b" ")?;
+    let high = take_number(reader, b" ")?;
     Ok((low, high))
 }
 
 /// The state of an accepted call that has no results.
-fn take_state(fields: &mut Words<'_>, verf: OpaqueAuth) -> Result<Outcome, LineError>
-    ensures { TakesParts (StateStands verf) fields.old fields.new result }
-{
-    let Some(state) = fields.next() else {
-        return Err(LineError::Outside);
-    };
-    if same_text(state, b"progunavail") {
-        return Ok(Outcome::ProgUnavail { verf });
-    }
-    if same_text(state, b"procunavail") {
-        return Ok(Outcome::ProcUnavail { verf });
-    }
-    if same_text(state, b"garbageargs") {
-        return Ok(Outcome::GarbageArgs { verf });
-    }
-    if !same_text(state, b"progmismatch") {
-        return Err(LineError::Outside);
-    }
-    let (low, high) = take_range(fields)?;
-    Ok(Outcome::ProgMismatch { verf, low, high })
+#[derive(Clone, Copy, Debug)]
+pub enum State {
+    ProgUnavail,
+    ProgMismatch { low: u32, high: u32 },
+    ProcUnavail,
+    GarbageArgs,
 }
 
-/// FLAVOR BYTES, and the state
-fn take_accepted(alloc: Global, fields: &mut Words<'_>) -> Result<Outcome, LineError>
-    ensures { TakesParts AcceptedStands fields.old fields.new result }
+/// The state of an accepted call that has no results.
+#[tactic(auto, unfolding(sd_text::specs::Reading::reading, sd_text::specs::Reading::name_reading))]
+fn take_state(reader: &mut TextReader) -> Result<State, LineError>
+    ensures { Takes (texts.spaced states) state_told reader.old reader.new result }
 {
-    let verf = take_body(alloc, fields)?;
-    Ok(take_state(fields, verf)?)
+    reader.said(b" ")?;
+    let state = reader.front(Class::Name);
+    if is_word(state, b"progunavail") {
+        return Ok(State::ProgUnavail);
+    }
+    if is_word(state, b"progmismatch") {
+        let (low, high) = take_range(reader)?;
+        return Ok(State::ProgMismatch { low, high });
+    }
+    if is_word(state, b"procunavail") {
+        return Ok(State::ProcUnavail);
+    }
+    if is_word(state, b"garbageargs") {
+        return Ok(State::GarbageArgs);
+    }
+    Err(LineError::Outside)
 }
 
-/// What follows the number of a reply.
-fn take_outcome(alloc: Global, fields: &mut Words<'_>) -> Result<Outcome, LineError>
-    ensures { TakesParts OutcomeStands fields.old fields.new result }
+/// What an accepted call came to.
+fn outcome_of(verf: OpaqueAuth, state: State) -> Outcome
+    ensures { outcome_value result no_body ≡ number 1 ⊗ auth_value verf ⊗ state_told state }
 {
-    let Some(word) = fields.next() else {
-        return Err(LineError::Outside);
-    };
-    if same_text(word, b"raw") {
-        let (verf, results) = take_raw(alloc, fields)?;
-        return Ok(Outcome::Success { verf, results });
+    match state {
+        State::ProgUnavail => Outcome::ProgUnavail { verf },
+        State::ProgMismatch { low, high } => Outcome::ProgMismatch { verf, low, high },
+        State::ProcUnavail => Outcome::ProcUnavail { verf },
+        State::GarbageArgs => Outcome::GarbageArgs { verf },
     }
-    if same_text(word, b"verf") {
-        return Ok(take_accepted(alloc, fields)?);
+}
+
+/// What a call came to, and the procedure that stands in it by name.
+#[derive(Debug, Drop)]
+pub struct OutcomeText {
+    pub outcome: Outcome,
+    pub known: Option<Known>,
+}
+
+/// What follows `raw`.
+#[tactic(auto, unfolding(sd_text::specs::Reading::reading))]
+fn take_raw(alloc: Global, reader: &mut TextReader) -> Result<OutcomeText, LineError>
+    ensures takes { Takes (given 0 raw) outcome_told reader.old reader.new result }
+    ensures written { IfOk result IsOutcomeWritten }
+{
+    let verf = take_auth(alloc, reader, b" verf ")?;
+    let results = take_bytes(alloc, reader, b" success ")?;
+    Ok(OutcomeText {
+        outcome: Outcome::Success { verf, results },
+        known: None,
+    })
+}
+
+/// What follows `verf`.
+#[tactic(auto, unfolding(sd_text::specs::Reading::reading))]
+fn take_accepted(alloc: Global, reader: &mut TextReader) -> Result<OutcomeText, LineError>
+    ensures takes { Takes (given 1 (texts.spaced auth & texts.spaced states)) outcome_told reader.old reader.new result }
+    ensures written { IfOk result IsOutcomeWritten }
+{
+    let verf = take_auth(alloc, reader, b" ")?;
+    let state = take_state(reader)?;
+    Ok(OutcomeText {
+        outcome: outcome_of(verf, state),
+        known: None,
+    })
+}
+
+/// What follows `rpcmismatch`.
+#[tactic(auto, unfolding(sd_text::specs::Reading::reading))]
+fn take_mismatch(reader: &mut TextReader) -> Result<OutcomeText, LineError>
+    ensures takes { Takes (given 2 range) outcome_told reader.old reader.new result }
+    ensures written { IfOk result IsOutcomeWritten }
+{
+    let (low, high) = take_range(reader)?;
+    Ok(OutcomeText {
+        outcome: Outcome::RpcMismatch { low, high },
+        known: None,
+    })
+}
+
+/// What follows `autherror`.
+#[tactic(auto, unfolding(sd_text::specs::Reading::reading))]
+fn take_denial(reader: &mut TextReader) -> Result<OutcomeText, LineError>
+    ensures takes { Takes (given 3 (texts.spaced (word (digits 1 5)))) outcome_told reader.old reader.new result }
+    ensures written { IfOk result IsOutcomeWritten }
+{
+    reader.said(b" ")?;
+    let stat = reader.number(1, 5)? as u32;
+    Ok(OutcomeText {
+        outcome: Outcome::AuthError { stat },
+        known: None,
+    })
+}
+
+/// success FIELDS
+#[tactic(auto, unfolding(sd_text::specs::Reading::reading))]
+fn take_success(alloc: Global, reader: &mut TextReader, known: Known) -> Result<ByteList, LineError>
+    ensures takes { Takes (said (codes " success") (fields_text (results known))) (value_in (results_kind known)) reader.old reader.new result }
+    ensures written { IfOk result (AreWritten (results_kind known)) }
+{
+    reader.said(b" success")?;
+    Ok(take_results(alloc, reader, known)?)
+}
+
+/// What follows a procedure's name.
+#[tactic(auto, unfolding(sd_text::specs::Reading::reading))]
+fn take_done(alloc: Global, reader: &mut TextReader, known: Known) -> Result<OutcomeText, LineError>
+    ensures takes { Takes (given (place known + 4) (done known)) outcome_told reader.old reader.new result }
+    ensures written { IfOk result IsOutcomeWritten }
+{
+    let verf = take_auth(alloc, reader, b" verf ")?;
+    let results = take_success(alloc, reader, known)?;
+    Ok(OutcomeText {
+        outcome: Outcome::Success { verf, results },
+        known: Some(known),
+    })
+}
+
+/// What a call came to.
+#[tactic(auto, unfolding(sd_text::specs::Reading::reading, sd_text::specs::Reading::name_reading), using(crate::proofs::Knowing::answer_back))]
+fn take_answer(alloc: Global, reader: &mut TextReader) -> Result<OutcomeText, LineError>
+    ensures takes { Takes outcome outcome_told reader.old reader.new result }
+    ensures written { IfOk result IsOutcomeWritten }
+{
+    let word = reader.front(Class::Name);
+    if is_word(word, b"raw") {
+        return Ok(take_raw(alloc, reader)?);
     }
-    if same_text(word, b"rpcmismatch") {
-        let (low, high) = take_range(fields)?;
-        return Ok(Outcome::RpcMismatch { low, high });
+    if is_word(word, b"verf") {
+        return Ok(take_accepted(alloc, reader)?);
     }
-    if same_text(word, b"autherror") {
-        let stat = take_number(fields, 1, 5)? as u32;
-        return Ok(Outcome::AuthError { stat });
+    if is_word(word, b"rpcmismatch") {
+        return Ok(take_mismatch(reader)?);
+    }
+    if is_word(word, b"autherror") {
+        return Ok(take_denial(reader)?);
     }
     let Some(known) = known_by_name(word) else {
         return Err(LineError::Outside);
     };
-    let (verf, results) = take_known(alloc, fields, known)?;
-    Ok(Outcome::Success { verf, results })
+    Ok(take_done(alloc, reader, known)?)
 }
 
-/// XID, and the outcome
-fn take_reply(alloc: Global, fields: &mut Words<'_>) -> Result<Reply, LineError>
-    ensures { TakesParts ReplyStands fields.old fields.new result }
+/// What follows the number of a reply.
+#[tactic(auto, unfolding(sd_text::specs::Reading::reading))]
+fn take_outcome(alloc: Global, reader: &mut TextReader) -> Result<OutcomeText, LineError>
+    ensures takes { Takes (texts.spaced outcome) outcome_told reader.old reader.new result }
+    ensures written { IfOk result IsOutcomeWritten }
 {
-    let xid = take_number(fields, 0, GREATEST)? as u32;
-    let outcome = take_outcome(alloc, fields)?;
-    Ok(Reply { xid, outcome })
+    reader.said(b" ")?;
+    Ok(take_answer(alloc, reader)?)
 }
 
-/// What follows `call` or `reply`, which is the word.
-pub fn take_message(
-    alloc: Global,
-    fields: &mut Words<'_>,
-    word: &[u8],
-) -> Result<Message, LineError>
-    ensures { TakesParts (MessageStands word.now) fields.old fields.new result }
+/// What follows `reply`.
+#[tactic(auto, unfolding(sd_text::specs::Reading::reading))]
+pub fn take_reply(alloc: Global, reader: &mut TextReader) -> Result<MessageText, LineError>
+    ensures takes { Takes (given 2 (texts.spaced reply)) message_told reader.old reader.new result }
+    ensures written { IfOk result IsMessageWritten }
 {
-    if same_text(word, b"call") {
-        return Ok(Message::Asked(take_call(alloc, fields)?));
-    }
-    if !same_text(word, b"reply") {
-        return Err(LineError::Outside);
-    }
-    Ok(Message::Answered(take_reply(alloc, fields)?))
+    let xid = take_number(reader, b" ")?;
+    let text = take_outcome(alloc, reader)?;
+    Ok(MessageText {
+        message: Message::Answered(Reply {
+            xid,
+            outcome: text.outcome,
+        }),
+        known: text.known,
+    })
 }

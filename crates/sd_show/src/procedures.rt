@@ -2,7 +2,10 @@
 
 ghost use Rattle.std.specs.Prelude.{◌≡◌, ◌↔◌, IsTrue};
 ghost use Rattle.sd_text.specs.Answers.{Finds};
+ghost use Rattle.sd_text.specs.Kind.{place_from, place_in};
 ghost use Rattle.sd_show.specs.Programs.{all_known, numbers, known_text};
+ghost use Rattle.sd_show.specs.Lines.{known_names};
+ghost use Rattle.sd_show.specs.Packing.{place_of, later_place_of};
 
 use sd_text::same_text;
 
@@ -110,6 +113,13 @@ pub fn known_by_numbers(procedure: Procedure) -> Option<Known>
 
 /// The procedure with this name.
 pub fn known_by_name(text: &[u8]) -> Option<Known>
+    ensures at { place_in text.now known_names ≡ place_of result }
+    ensures later { place_from 4 text.now known_names ≡ later_place_of result }
+{
+    find_name(text)
+}
+
+fn find_name(text: &[u8]) -> Option<Known>
     ensures { Finds (λ k. text.now ≡ known_text k) result }
 {
     for known in all_known() {

@@ -1,21 +1,54 @@
-//! Writing the fields of arguments and results, which are read from their bytes.
+//! Writing the texts of values and of fields, which are read from their bytes.
 
-ghost use Rattle.std.specs.Prelude.{◌≡◌, [], ◌∷◌, ◌++◌, OnOk};
-ghost use Rattle.sd_xdr.specs.Kind.{number, truth};
+ghost use Rattle.std.specs.Prelude.{◌≡◌, ◌++◌, codes, OnOk};
+ghost use Rattle.sd_xdr.specs.Kind as xdr;
+ghost use Rattle.sd_xdr.specs.Kind.{number, truth, list};
 ghost use Rattle.sd_xdr.specs.Reading.{Takes};
 ghost use Rattle.sd_bootparams.specs.Layout.{ip, ip_value};
-ghost use Rattle.sd_show.specs.Forms.{as_ip, as_quoted, in_brackets};
-ghost use Rattle.sd_show.specs.Fields.{field_name, checked};
-ghost use Rattle.sd_show.specs.Shapes.{leaf_form, row_form, export_form, shape_form};
-ghost use Rattle.sd_show.specs.Saying.{Says, SaysFields, all_of, table};
+ghost use Rattle.sd_show.specs.Forms.{as_number, as_ip, as_run, as_quoted, form_kind, text_kind, items};
+ghost use Rattle.sd_show.specs.Fields.{field, checked, field_name};
+ghost use Rattle.sd_show.specs.Saying.{Says, SaysAs, SaysFields};
+ghost use Rattle.sd_show.specs.Packing.{form_of, fields_of};
 
-use crate::fields::{Field, Leaf, Row, Shape};
-use crate::programs::ResultFields;
-use crate::quoting::push_quoted;
-use sd_outside::{ByteList, NoMemory};
-use sd_text::{ip_list, push_number, write_runs};
+use crate::fields::Field;
+use crate::form::{Fields, Form};
+use sd_outside::NoMemory;
+use sd_text::TextWriter;
 use sd_xdr::{MsgError, XdrReader};
-use std::alloc::Global;
+
+#[tactic(auto, unfolding(sd_xdr::specs::Reading::reading, sd_text::specs::Grammar::writes))]
+fn say_number(writer: &mut TextWriter, reader: &mut XdrReader) -> Result<(), MsgError>
+    ensures { Says (as_number xdr.any) reader.old reader.new writer.old writer.new result }
+{
+    let word = reader.u32()?;
+    writer.number(u64::from(word))?;
+    Ok(())
+}
+
+/// 1 for true and 0 for false.
+fn digit_of(flag: bool) -> u64
+    ensures { number result ≡ truth flag }
+{
+    if flag { 1 } else { 0 }
+}
+
+#[tactic(auto, unfolding(sd_xdr::specs::Reading::reading, sd_text::specs::Grammar::writes))]
+fn say_flag(writer: &mut TextWriter, reader: &mut XdrReader) -> Result<(), MsgError>
+    ensures { Says (as_number xdr.flag) reader.old reader.new writer.old writer.new result }
+{
+    let flag = reader.bool()?;
+    writer.number(digit_of(flag))?;
+    Ok(())
+}
+
+#[tactic(auto, unfolding(sd_xdr::specs::Reading::reading, sd_text::specs::Grammar::writes))]
+fn say_port(writer: &mut TextWriter, reader: &mut XdrReader) -> Result<(), MsgError>
+    ensures { Says (as_number (xdr.between 0 65535)) reader.old reader.new writer.old writer.new result }
+{
+    let port = reader.word_between(0, 65_535)?;
+    writer.number(u64::from(port))?;
+    Ok(())
+}
 
 /// An address: a type, which is 1, and four chars.
 #[tactic(auto, unfolding(sd_xdr::specs::Reading::reading))]
@@ -30,198 +63,144 @@ fn read_address(reader: &mut XdrReader) -> Result<u32, MsgError>
     Ok(u32::from_be_bytes([net, host, lh, impno]))
 }
 
-/// An address, as four numbers joined by dots.
-fn say_ip(alloc: Global, text: &mut ByteList, reader: &mut XdrReader) -> Result<(), MsgError>
-    ensures { Says as_ip reader.old reader.new text.old text.new result }
+fn say_ip(writer: &mut TextWriter, reader: &mut XdrReader) -> Result<(), MsgError>
+    ensures { Says as_ip reader.old reader.new writer.old writer.new result }
 {
     let address = read_address(reader)?;
-    text.push_slice(ip_list(alloc, address)?.as_slice())?;
+    writer.ip(address)?;
     Ok(())
 }
 
-/// 1 for true and 0 for false.
-fn digit_of(flag: bool) -> u64
-    ensures { number result ≡ truth flag }
+#[tactic(auto, unfolding(sd_xdr::specs::Reading::reading, sd_text::specs::Grammar::writes))]
+fn say_fixed(writer: &mut TextWriter, reader: &mut XdrReader, len: u32) -> Result<(), MsgError>
+    ensures { Says (as_run (xdr.fixed len)) reader.old reader.new writer.old writer.new result }
 {
-    if flag { 1 } else { 0 }
+    let bytes = reader.opaque_fixed(len as usize)?;
+    writer.run(bytes)?;
+    Ok(())
 }
 
-/// One value.
-#[tactic(auto, unfolding(sd_xdr::specs::Reading::reading))]
-fn say_leaf(
-    alloc: Global,
-    text: &mut ByteList,
-    reader: &mut XdrReader,
-    leaf: Leaf,
-) -> Result<(), MsgError>
-    ensures { Says (leaf_form leaf) reader.old reader.new text.old text.new result }
+#[tactic(auto, unfolding(sd_xdr::specs::Reading::reading, sd_text::specs::Grammar::writes))]
+fn say_run(writer: &mut TextWriter, reader: &mut XdrReader, most: u32) -> Result<(), MsgError>
+    ensures { Says (as_run (xdr.upto most)) reader.old reader.new writer.old writer.new result }
 {
-    match leaf {
-        Leaf::Number => push_number(alloc, text, u64::from(reader.u32()?))?,
-        Leaf::Flag => push_number(alloc, text, digit_of(reader.bool()?))?,
-        Leaf::Port => push_number(alloc, text, u64::from(reader.word_between(0, 65_535)?))?,
-        Leaf::Address => say_ip(alloc, text, reader)?,
-        Leaf::Fixed { len } => write_runs(alloc, reader.opaque_fixed(len as usize)?, text)?,
-        Leaf::Run { most } => write_runs(alloc, reader.opaque_var(most)?, text)?,
-        Leaf::Text { most } => push_quoted(alloc, text, reader.opaque_var(most)?)?,
+    let bytes = reader.opaque_var(most)?;
+    writer.run(bytes)?;
+    Ok(())
+}
+
+#[tactic(auto, unfolding(sd_xdr::specs::Reading::reading, sd_text::specs::Grammar::writes))]
+fn say_quoted(writer: &mut TextWriter, reader: &mut XdrReader, most: u32) -> Result<(), MsgError>
+    ensures { Says (as_quoted most) reader.old reader.new writer.old writer.new result }
+{
+    let bytes = reader.opaque_var(most)?;
+    writer.quoted(bytes)?;
+    Ok(())
+}
+
+/// A value.
+#[cycle(form)]
+pub fn say_form(
+    writer: &mut TextWriter,
+    reader: &mut XdrReader,
+    form: &Form,
+) -> Result<(), MsgError>
+    ensures { Says (form_of form.now) reader.old reader.new writer.old writer.new result }
+{
+    match form {
+        Form::Number => say_number(writer, reader),
+        Form::Flag => say_flag(writer, reader),
+        Form::Port => say_port(writer, reader),
+        Form::Address => say_ip(writer, reader),
+        Form::Fixed { len } => say_fixed(writer, reader, *len),
+        Form::Run { most } => say_run(writer, reader, *most),
+        Form::Quoted { most } => say_quoted(writer, reader, *most),
+        Form::Pair(first, second) => {
+            say_form(writer, reader, first)?;
+            writer.said(b",")?;
+            say_form(writer, reader, second)
+        }
+        Form::List(item) => {
+            writer.said(b"[")?;
+            say_items(writer, reader, item)?;
+            writer.said(b"]")?;
+            Ok(())
+        }
+        Form::Row(inner) => {
+            writer.said(b"(")?;
+            say_form(writer, reader, inner)?;
+            writer.said(b")")?;
+            Ok(())
+        }
     }
-    Ok(())
 }
 
-/// Values in parentheses, a comma between each two.
-fn say_row(
-    alloc: Global,
-    text: &mut ByteList,
-    reader: &mut XdrReader,
-    row: Row,
-) -> Result<(), MsgError>
-    ensures { Says (row_form row) reader.old reader.new text.old text.new result }
-{
-    let leaves = row.leaves();
-    let mut before: &[u8] = b"(";
-    for leaf in leaves {
-        text.push_slice(before)?;
-        say_leaf(alloc, text, reader, *leaf)?;
-        before = b",";
-    }
-    text.push_slice(b")")?;
-    Ok(())
-}
-
-/// Rows in brackets, each behind the bool 1.
-fn say_rows(
-    alloc: Global,
-    text: &mut ByteList,
-    reader: &mut XdrReader,
-    row: Row,
-) -> Result<(), MsgError>
-    ensures { Says (in_brackets (row_form row)) reader.old reader.new text.old text.new result }
+/// The items of a list, each behind the bool 1, with a comma between each two.
+#[cycle(form)]
+fn say_items(writer: &mut TextWriter, reader: &mut XdrReader, item: &Form) -> Result<(), MsgError>
+    ensures { SaysAs (items (text_kind (form_of item.now))) (list (form_kind (form_of item.now))) reader.old reader.new writer.old writer.new result }
 {
     let mut before: &[u8] = b"";
-    text.push_slice(b"[")?;
-    while reader.bool()? {
-        text.push_slice(before)?;
-        say_row(alloc, text, reader, row)?;
+    'saying: while reader.bool()? {
+        writer.said(before)?;
+        say_form(writer, reader, item)?;
         before = b",";
     }
-    text.push_slice(b"]")?;
     Ok(())
-}
-
-/// The names of groups in brackets, each behind the bool 1.
-fn say_groups(alloc: Global, text: &mut ByteList, reader: &mut XdrReader) -> Result<(), MsgError>
-    ensures { Says (in_brackets (as_quoted 255)) reader.old reader.new text.old text.new result }
-{
-    let mut before: &[u8] = b"";
-    text.push_slice(b"[")?;
-    while reader.bool()? {
-        text.push_slice(before)?;
-        say_leaf(alloc, text, reader, Leaf::Text { most: 255 })?;
-        before = b",";
-    }
-    text.push_slice(b"]")?;
-    Ok(())
-}
-
-/// The path and the groups of an export.
-fn say_export(alloc: Global, text: &mut ByteList, reader: &mut XdrReader) -> Result<(), MsgError>
-    ensures { Says (export_form) reader.old reader.new text.old text.new result }
-{
-    text.push_slice(b"(")?;
-    say_leaf(alloc, text, reader, Leaf::Text { most: 1024 })?;
-    text.push_slice(b",")?;
-    say_groups(alloc, text, reader)?;
-    text.push_slice(b")")?;
-    Ok(())
-}
-
-/// Exports in brackets, each behind the bool 1.
-fn say_exports(alloc: Global, text: &mut ByteList, reader: &mut XdrReader) -> Result<(), MsgError>
-    ensures { Says (in_brackets export_form) reader.old reader.new text.old text.new result }
-{
-    let mut before: &[u8] = b"";
-    text.push_slice(b"[")?;
-    while reader.bool()? {
-        text.push_slice(before)?;
-        say_export(alloc, text, reader)?;
-        before = b",";
-    }
-    text.push_slice(b"]")?;
-    Ok(())
-}
-
-/// The value of a field.
-fn say_shape(
-    alloc: Global,
-    text: &mut ByteList,
-    reader: &mut XdrReader,
-    shape: Shape,
-) -> Result<(), MsgError>
-    ensures { Says (shape_form shape) reader.old reader.new text.old text.new result }
-{
-    match shape {
-        Shape::One(leaf) => say_leaf(alloc, text, reader, leaf),
-        Shape::Row(row) => say_row(alloc, text, reader, row),
-        Shape::List(row) => say_rows(alloc, text, reader, row),
-        Shape::Exports => say_exports(alloc, text, reader),
-    }
 }
 
 /// A space, the name of a field, and `=`.
-fn say_name(text: &mut ByteList, field: Field) -> Result<(), NoMemory>
-    ensures { OnOk result (text.new ≡ text.old ++ 32 ∷ (field_name field ++ 61 ∷ [])) }
+fn say_name(writer: &mut TextWriter, field: Field) -> Result<(), NoMemory>
+    ensures { OnOk result (writer.new ≡ writer.old ++ (codes " " ++ (field_name field ++ codes "="))) }
 {
-    text.push_slice(b" ")?;
-    text.push_slice(field.name().as_bytes())?;
-    text.push_slice(b"=")
+    writer.said(b" ")?;
+    writer.said(field.name().as_bytes())?;
+    writer.said(b"=")
 }
 
-/// Fields, a space before each.
-pub fn say_fields(
-    alloc: Global,
-    text: &mut ByteList,
-    reader: &mut XdrReader,
-    fields: &[Field],
-) -> Result<(), MsgError>
-    ensures { SaysFields (all_of fields.now) reader.old reader.new text.old text.new result }
+/// A field.
+fn say_field(writer: &mut TextWriter, reader: &mut XdrReader, one: Field) -> Result<(), MsgError>
+    ensures { SaysFields (field one) reader.old reader.new writer.old writer.new result }
 {
-    for field in fields {
-        say_name(text, *field)?;
-        say_shape(alloc, text, reader, field.shape())?;
+    say_name(writer, one)?;
+    say_form(writer, reader, &one.form())
+}
+
+/// Fields.
+#[cycle(fields)]
+pub fn say_fields(
+    writer: &mut TextWriter,
+    reader: &mut XdrReader,
+    fields: &Fields,
+) -> Result<(), MsgError>
+    ensures { SaysFields (fields_of fields.now) reader.old reader.new writer.old writer.new result }
+{
+    match fields {
+        Fields::Nothing => Ok(()),
+        Fields::One(one) => say_field(writer, reader, *one),
+        Fields::Both(first, second) => {
+            say_fields(writer, reader, first)?;
+            say_fields(writer, reader, second)
+        }
+        Fields::Numbered(_, inner) => say_fields(writer, reader, inner),
+        Fields::Checked(inner) => say_checked(writer, reader, inner),
     }
-    Ok(())
 }
 
 /// A status, and the fields where it is 0.
+#[cycle(fields)]
 fn say_checked(
-    alloc: Global,
-    text: &mut ByteList,
+    writer: &mut TextWriter,
     reader: &mut XdrReader,
-    fields: &[Field],
+    inner: &Fields,
 ) -> Result<(), MsgError>
-    ensures { SaysFields (checked (all_of fields.now)) reader.old reader.new text.old text.new result }
+    ensures { SaysFields (checked (fields_of inner.now)) reader.old reader.new writer.old writer.new result }
 {
     let status = reader.u32()?;
-    say_name(text, Field::Status)?;
-    push_number(alloc, text, u64::from(status))?;
+    say_name(writer, Field::Status)?;
+    writer.number(u64::from(status))?;
     if status != 0 {
         return Ok(());
     }
-    say_fields(alloc, text, reader, fields)
-}
-
-/// The fields of results, where they are there: behind a status that isn't 0 they are not.
-pub fn say_results(
-    alloc: Global,
-    text: &mut ByteList,
-    reader: &mut XdrReader,
-    results: ResultFields,
-) -> Result<(), MsgError>
-    ensures { SaysFields (table results.checked results.fields.now) reader.old reader.new text.old text.new result }
-{
-    if results.checked {
-        say_checked(alloc, text, reader, results.fields)
-    } else {
-        say_fields(alloc, text, reader, results.fields)
-    }
+    say_fields(writer, reader, inner)
 }

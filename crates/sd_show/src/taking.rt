@@ -1,44 +1,65 @@
-//! Reading the fields of arguments and results, whose bytes are written.
+//! Reading the texts of values and of fields, whose bytes are written.
 
-ghost use Rattle.std.specs.Prelude.{◌≡◌, ◌≤◌};
-ghost use Rattle.sd_xdr.specs.Kind.{fixed, upto};
-ghost use Rattle.sd_show.specs.Fields.{field_name};
-ghost use Rattle.sd_show.specs.Forms.{as_ip, as_run, as_quoted, in_brackets};
-ghost use Rattle.sd_show.specs.Shapes.{leaf_form, row_form, export_form, shape_form};
-ghost use Rattle.sd_show.specs.Saying.{TakesForm, TakesWordUpTo, TakesFields, TakesItems, TakesBehind, all_of, table};
+ghost use Rattle.std.specs.Prelude.{◌≡◌, ◌++◌, codes, OnOk};
+ghost use Rattle.sd_xdr.specs.Kind as xdr;
+ghost use Rattle.sd_xdr.specs.Kind.{number, list};
+ghost use Rattle.sd_xdr.specs.Grammar.{writes};
+ghost use Rattle.sd_bootparams.specs.Layout.{ip, ip_value};
+ghost use Rattle.sd_text.specs.Kind.{any, word, digits, said};
+ghost use Rattle.sd_text.specs.Reading.{Takes, TakesSaid};
+ghost use Rattle.sd_show.specs.Forms.{as_number, as_ip, as_run, as_quoted, form_kind, text_kind, items, smaller};
+ghost use Rattle.sd_show.specs.Fields.{field, checked, field_name, fields_kind, fields_text};
+ghost use Rattle.sd_show.specs.Packing.{form_of, fields_of, TakesForm, TakesAs, TakesMore};
 
-use crate::fields::{Field, Leaf, Row, Shape};
-use crate::pieces::{Words, between, take_end, take_next};
-use crate::programs::ResultFields;
-use crate::quoting::read_quoted;
-use sd_outside::ByteList;
-use sd_text::{LineError, read_ip, read_number, read_runs_within, same_text};
+use crate::fields::Field;
+use crate::form::{Fields, Form};
+use sd_outside::NoMemory;
+use sd_text::{LineError, TextReader};
 use sd_xdr::XdrWriter;
 use std::alloc::Global;
 
-/// The greatest word.
-pub const GREATEST: u64 = 4_294_967_295;
-
-/// The most bytes of a datagram.
+/// The most bytes of a datagram, which has fewer items.
 pub const LONGEST: usize = 9216;
 
-/// A word up to `most`, in decimal.
-fn take_word(writer: &mut XdrWriter, text: &[u8], most: u64) -> Result<(), LineError>
-    requires { most ≤ 4294967295 }
-    ensures { TakesWordUpTo most text.now writer.old writer.new result }
+/// A number up to `most`, as a word.
+pub fn take_word(reader: &mut TextReader, most: u32) -> Result<u32, LineError>
+    ensures { Takes (word (digits 0 most)) number reader.old reader.new result }
 {
-    let Some(number) = read_number(text, 0, most) else {
-        return Err(LineError::Outside);
-    };
-    writer.u32(number as u32)?;
+    Ok(reader.number(0, u64::from(most))? as u32)
+}
+
+#[tactic(auto, unfolding(crate::specs::Packing::packs_as))]
+fn take_number(reader: &mut TextReader, writer: &mut XdrWriter) -> Result<(), LineError>
+    ensures { TakesForm (as_number xdr.any) writer.old reader.old writer.new reader.new result }
+{
+    let word = take_word(reader, 4_294_967_295)?;
+    writer.u32(word)?;
+    Ok(())
+}
+
+#[tactic(auto, unfolding(crate::specs::Packing::packs_as))]
+fn take_flag(reader: &mut TextReader, writer: &mut XdrWriter) -> Result<(), LineError>
+    ensures { TakesForm (as_number xdr.flag) writer.old reader.old writer.new reader.new result }
+{
+    let word = take_word(reader, 1)?;
+    writer.u32(word)?;
+    Ok(())
+}
+
+#[tactic(auto, unfolding(crate::specs::Packing::packs_as))]
+fn take_port(reader: &mut TextReader, writer: &mut XdrWriter) -> Result<(), LineError>
+    ensures { TakesForm (as_number (xdr.between 0 65535)) writer.old reader.old writer.new reader.new result }
+{
+    let word = take_word(reader, 65_535)?;
+    writer.u32(word)?;
     Ok(())
 }
 
 /// An address: a type, which is 1, and four chars.
-fn take_ip(writer: &mut XdrWriter, text: &[u8]) -> Result<(), LineError>
-    ensures { TakesForm (as_ip) text.now writer.old writer.new result }
+fn put_ip(writer: &mut XdrWriter, address: u32) -> Result<(), NoMemory>
+    ensures { OnOk result (writer.new ≡ writer.old ++ writes ip (ip_value address)) }
 {
-    let [net, host, lh, impno] = read_ip(text)?.to_be_bytes();
+    let [net, host, lh, impno] = address.to_be_bytes();
     writer.u32(1)?;
     writer.char(net)?;
     writer.char(host)?;
@@ -47,188 +68,216 @@ fn take_ip(writer: &mut XdrWriter, text: &[u8]) -> Result<(), LineError>
     Ok(())
 }
 
-/// So many bytes.
-fn take_fixed(alloc: Global, writer: &mut XdrWriter, text: &[u8], len: u32) -> Result<(), LineError>
-    ensures { TakesForm (as_run (fixed len)) text.now writer.old writer.new result }
+#[tactic(auto, unfolding(crate::specs::Packing::packs_as))]
+fn take_ip(reader: &mut TextReader, writer: &mut XdrWriter) -> Result<(), LineError>
+    ensures { TakesForm as_ip writer.old reader.old writer.new reader.new result }
 {
-    let bytes = read_runs_within(alloc, text, LONGEST)?;
-    if bytes.as_slice().len() != len as usize {
-        return Err(LineError::Outside);
-    }
+    let address = reader.ip()?;
+    put_ip(writer, address)?;
+    Ok(())
+}
+
+#[tactic(auto, unfolding(crate::specs::Packing::packs_as))]
+fn take_fixed(
+    alloc: Global,
+    reader: &mut TextReader,
+    writer: &mut XdrWriter,
+    len: u32,
+) -> Result<(), LineError>
+    ensures { TakesForm (as_run (xdr.fixed len)) writer.old reader.old writer.new reader.new result }
+{
+    let bytes = reader.run(alloc, len as usize, len as usize)?;
     writer.opaque_fixed(bytes.as_slice())?;
     Ok(())
 }
 
-/// A length and at most so many bytes.
-fn take_run(alloc: Global, writer: &mut XdrWriter, text: &[u8], most: u32) -> Result<(), LineError>
-    ensures { TakesForm (as_run (upto most)) text.now writer.old writer.new result }
+/// The smaller of two lengths.
+fn smaller(one: usize, other: usize) -> usize
+    ensures { result ≡ smaller one other }
 {
-    let bytes = read_runs_within(alloc, text, LONGEST.min(most as usize))?;
+    if one <= other { one } else { other }
+}
+
+#[tactic(auto, unfolding(crate::specs::Packing::packs_as))]
+fn take_run(
+    alloc: Global,
+    reader: &mut TextReader,
+    writer: &mut XdrWriter,
+    most: u32,
+) -> Result<(), LineError>
+    ensures { TakesForm (as_run (xdr.upto most)) writer.old reader.old writer.new reader.new result }
+{
+    let bytes = reader.run(alloc, 0, smaller(most as usize, LONGEST))?;
     writer.opaque_var(bytes.as_slice())?;
     Ok(())
 }
 
-/// One value.
-fn take_leaf(
+#[tactic(auto, unfolding(crate::specs::Packing::packs_as))]
+fn take_quoted(
     alloc: Global,
+    reader: &mut TextReader,
     writer: &mut XdrWriter,
-    text: &[u8],
-    leaf: Leaf,
+    most: u32,
 ) -> Result<(), LineError>
-    ensures { TakesForm (leaf_form leaf) text.now writer.old writer.new result }
+    ensures { TakesForm (as_quoted most) writer.old reader.old writer.new reader.new result }
 {
-    match leaf {
-        Leaf::Number => take_word(writer, text, GREATEST),
-        Leaf::Flag => take_word(writer, text, 1),
-        Leaf::Port => take_word(writer, text, 65_535),
-        Leaf::Address => take_ip(writer, text),
-        Leaf::Fixed { len } => take_fixed(alloc, writer, text, len),
-        Leaf::Run { most } => take_run(alloc, writer, text, most),
-        Leaf::Text { most } => {
-            let bytes = read_quoted(alloc, text, most as usize)?;
-            writer.opaque_var(bytes.as_slice())?;
-            Ok(())
+    let bytes = reader.quoted(alloc, most as usize)?;
+    writer.opaque_var(bytes.as_slice())?;
+    Ok(())
+}
+
+/// A value.
+#[cycle(form)]
+pub fn take_form(
+    alloc: Global,
+    reader: &mut TextReader,
+    writer: &mut XdrWriter,
+    form: &Form,
+) -> Result<(), LineError>
+    ensures { TakesForm (form_of form.now) writer.old reader.old writer.new reader.new result }
+{
+    match form {
+        Form::Number => take_number(reader, writer),
+        Form::Flag => take_flag(reader, writer),
+        Form::Port => take_port(reader, writer),
+        Form::Address => take_ip(reader, writer),
+        Form::Fixed { len } => take_fixed(alloc, reader, writer, *len),
+        Form::Run { most } => take_run(alloc, reader, writer, *most),
+        Form::Quoted { most } => take_quoted(alloc, reader, writer, *most),
+        Form::Pair(first, second) => {
+            take_form(alloc, reader, writer, first)?;
+            reader.said(b",")?;
+            take_form(alloc, reader, writer, second)
+        }
+        Form::List(item) => {
+            reader.said(b"[")?;
+            take_items(alloc, reader, writer, item)?;
+            reader.said(b"]")
+        }
+        Form::Row(inner) => {
+            reader.said(b"(")?;
+            take_form(alloc, reader, writer, inner)?;
+            reader.said(b")")
         }
     }
 }
 
-/// Values in parentheses, a comma between each two.
-fn take_row(alloc: Global, writer: &mut XdrWriter, text: &[u8], row: Row) -> Result<(), LineError>
-    ensures { TakesForm (row_form row) text.now writer.old writer.new result }
-{
-    let mut words = Words::new(between(text, b'(', b')')?, b',');
-    for leaf in row.leaves() {
-        take_leaf(alloc, writer, take_next(&mut words)?, *leaf)?;
-    }
-    take_end(&mut words)
-}
-
-/// The items in brackets.
-fn items(text: &[u8]) -> Result<Words<'_>, LineError>
-    ensures { TakesItems text.now result }
-{
-    Ok(Words::items(between(text, b'[', b']')?, b','))
-}
-
-/// Rows in brackets, each behind the bool 1.
-fn take_rows(alloc: Global, writer: &mut XdrWriter, text: &[u8], row: Row) -> Result<(), LineError>
-    ensures { TakesForm (in_brackets (row_form row)) text.now writer.old writer.new result }
-{
-    let mut words = items(text)?;
-    while let Some(item) = words.next() {
-        writer.bool(true)?;
-        take_row(alloc, writer, item, row)?;
-    }
-    writer.bool(false)?;
-    Ok(())
-}
-
-/// The names of groups in brackets, each behind the bool 1.
-fn take_groups(alloc: Global, writer: &mut XdrWriter, text: &[u8]) -> Result<(), LineError>
-    ensures { TakesForm (in_brackets (as_quoted 255)) text.now writer.old writer.new result }
-{
-    let mut words = items(text)?;
-    while let Some(item) = words.next() {
-        writer.bool(true)?;
-        take_leaf(alloc, writer, item, Leaf::Text { most: 255 })?;
-    }
-    writer.bool(false)?;
-    Ok(())
-}
-
-/// The path and the groups of an export.
-fn take_export(alloc: Global, writer: &mut XdrWriter, text: &[u8]) -> Result<(), LineError>
-    ensures { TakesForm (export_form) text.now writer.old writer.new result }
-{
-    let mut words = Words::new(between(text, b'(', b')')?, b',');
-    take_leaf(
-        alloc,
-        writer,
-        take_next(&mut words)?,
-        Leaf::Text { most: 1024 },
-    )?;
-    take_groups(alloc, writer, take_next(&mut words)?)?;
-    take_end(&mut words)
-}
-
-/// Exports in brackets, each behind the bool 1.
-fn take_exports(alloc: Global, writer: &mut XdrWriter, text: &[u8]) -> Result<(), LineError>
-    ensures { TakesForm (in_brackets export_form) text.now writer.old writer.new result }
-{
-    let mut words = items(text)?;
-    while let Some(item) = words.next() {
-        writer.bool(true)?;
-        take_export(alloc, writer, item)?;
-    }
-    writer.bool(false)?;
-    Ok(())
-}
-
-/// The value of a field.
-fn take_shape(
+/// What stands between brackets: each item behind the bool 1, and at the end the bool 0.
+#[cycle(form)]
+fn take_items(
     alloc: Global,
+    reader: &mut TextReader,
     writer: &mut XdrWriter,
-    text: &[u8],
-    shape: Shape,
+    item: &Form,
 ) -> Result<(), LineError>
-    ensures { TakesForm (shape_form shape) text.now writer.old writer.new result }
+    ensures { TakesAs (items (text_kind (form_of item.now))) (list (form_kind (form_of item.now))) writer.old reader.old writer.new reader.new result }
 {
-    match shape {
-        Shape::One(leaf) => take_leaf(alloc, writer, text, leaf),
-        Shape::Row(row) => take_row(alloc, writer, text, row),
-        Shape::List(row) => take_rows(alloc, writer, text, row),
-        Shape::Exports => take_exports(alloc, writer, text),
+    if !reader.begins_other(b']') {
+        writer.bool(false)?;
+        return Ok(());
     }
+    writer.bool(true)?;
+    take_form(alloc, reader, writer, item)?;
+    take_more(alloc, reader, writer, item)
 }
 
-/// What stands behind a name and `=`.
-fn behind_name(text: &[u8], field: Field) -> Result<&[u8], LineError>
-    ensures { TakesBehind (field_name field) text.now result }
+/// The items behind the first.
+#[cycle(form)]
+fn take_more(
+    alloc: Global,
+    reader: &mut TextReader,
+    writer: &mut XdrWriter,
+    item: &Form,
+) -> Result<(), LineError>
+    ensures { TakesMore (text_kind (form_of item.now)) (form_kind (form_of item.now)) writer.old reader.old writer.new reader.new result }
 {
-    let name = field.name().as_bytes();
-    let len = name.len();
-    if text.len() > len && same_text(&text[..len], name) && text[len] == b'=' {
-        Ok(&text[len + 1..])
-    } else {
-        Err(LineError::Outside)
+    'taking: for _ in 0..LONGEST {
+        if !reader.begins(b',') {
+            writer.bool(false)?;
+            return Ok(());
+        }
+        reader.said(b",")?;
+        writer.bool(true)?;
+        take_form(alloc, reader, writer, item)?;
     }
+    writer.bool(false)?;
+    Ok(())
 }
 
-/// Fields, each the next word.
+fn take_word_of(reader: &mut TextReader, field: Field) -> Result<(), LineError>
+    ensures { TakesSaid (field_name field) reader.old reader.new result }
+{
+    reader.said(field.name().as_bytes())
+}
+
+/// A space, and NAME=.
+fn take_name(reader: &mut TextReader, field: Field) -> Result<(), LineError>
+    ensures { TakesSaid (codes " " ++ (field_name field ++ codes "=")) reader.old reader.new result }
+{
+    reader.said(b" ")?;
+    take_word_of(reader, field)?;
+    reader.said(b"=")
+}
+
+/// A field.
+fn take_field(
+    alloc: Global,
+    reader: &mut TextReader,
+    writer: &mut XdrWriter,
+    one: Field,
+) -> Result<(), LineError>
+    ensures { TakesAs (fields_text (field one)) (fields_kind (field one)) writer.old reader.old writer.new reader.new result }
+{
+    take_name(reader, one)?;
+    take_form(alloc, reader, writer, &one.form())
+}
+
+/// A status.
+#[tactic(auto, unfolding(sd_text::specs::Reading::reading))]
+fn take_status(reader: &mut TextReader) -> Result<u32, LineError>
+    ensures { Takes (said (codes " " ++ (field_name Field.Status ++ codes "=")) any) number reader.old reader.new result }
+{
+    take_name(reader, Field::Status)?;
+    take_word(reader, 4_294_967_295)
+}
+
+/// Fields, whose bytes are written.
+#[cycle(fields)]
+#[tactic(auto, using(crate::proofs::Packed::nothing_packs))]
 pub fn take_fields(
     alloc: Global,
+    reader: &mut TextReader,
     writer: &mut XdrWriter,
-    words: &mut Words<'_>,
-    fields: &[Field],
+    fields: &Fields,
 ) -> Result<(), LineError>
-    ensures { TakesFields (all_of fields.now) words.old words.new writer.old writer.new result }
+    ensures { TakesAs (fields_text (fields_of fields.now)) (fields_kind (fields_of fields.now)) writer.old reader.old writer.new reader.new result }
 {
-    for field in fields {
-        let text = behind_name(take_next(words)?, *field)?;
-        take_shape(alloc, writer, text, field.shape())?;
+    match fields {
+        Fields::Nothing => Ok(()),
+        Fields::One(one) => take_field(alloc, reader, writer, *one),
+        Fields::Both(first, second) => {
+            take_fields(alloc, reader, writer, first)?;
+            take_fields(alloc, reader, writer, second)
+        }
+        Fields::Numbered(_, inner) => take_fields(alloc, reader, writer, inner),
+        Fields::Checked(inner) => take_checked(alloc, reader, writer, inner),
     }
-    Ok(())
 }
 
-/// The fields of results, where they are there: behind a status that isn't 0 they are not.
-pub fn take_results(
+/// A status, and the fields where it is 0.
+#[cycle(fields)]
+fn take_checked(
     alloc: Global,
+    reader: &mut TextReader,
     writer: &mut XdrWriter,
-    words: &mut Words<'_>,
-    results: ResultFields,
+    inner: &Fields,
 ) -> Result<(), LineError>
-    ensures { TakesFields (table results.checked results.fields.now) words.old words.new writer.old writer.new result }
+    ensures { TakesAs (fields_text (checked (fields_of inner.now))) (fields_kind (checked (fields_of inner.now))) writer.old reader.old writer.new reader.new result }
 {
-    if !results.checked {
-        return take_fields(alloc, writer, words, results.fields);
-    }
-    let text = behind_name(take_next(words)?, Field::Status)?;
-    let Some(status) = read_number(text, 0, GREATEST) else {
-        return Err(LineError::Outside);
-    };
-    writer.u32(status as u32)?;
+    let status = take_status(reader)?;
+    writer.u32(status)?;
     if status != 0 {
         return Ok(());
     }
-    take_fields(alloc, writer, words, results.fields)
+    take_fields(alloc, reader, writer, inner)
 }

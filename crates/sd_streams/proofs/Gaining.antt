@@ -2,7 +2,7 @@
 use Rattle.std.proofs.Common.{◌≡◌, ℕ, List, [], ◌++◌, take, drop, Option, Some, None, sym, ◌∙◌, ap, subst, append_assoc, take-append-drop}
 use Rattle.std.proofs.lemmas.List.{append-nil}
 use Rattle.sd_outside.specs.Streams.{Gains}
-use Rattle.sd_streams.specs.Writing.{GainsFront}
+use Rattle.sd_streams.specs.Writing.{GainsPrefix}
 
 pub gains_nothing : (told : Option (List ℕ)) → Gains told told []
 gains_nothing None = tt
@@ -37,5 +37,5 @@ written_all old new bytes rest none w =
     let whole : w.front ≡ bytes = sym (append-nil w.front) ∙ ap (λ (l : List ℕ). w.front ++ l) (sym none) ∙ w.split in
     subst (λ (l : List ℕ). Gains old new l) whole w.gained
 
-pub written_front : (old mid new : Option (List ℕ)) (bytes rest : List ℕ) → new ≡ mid → Written old mid bytes rest → GainsFront old new bytes
+pub written_front : (old mid new : Option (List ℕ)) (bytes rest : List ℕ) → new ≡ mid → Written old mid bytes rest → GainsPrefix old new bytes
 written_front old mid new bytes rest same w = (w.front, (rest, w.split), subst (λ (o : Option (List ℕ)). Gains old o w.front) (sym same) w.gained)

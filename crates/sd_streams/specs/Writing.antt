@@ -1,14 +1,10 @@
 -- A writing that was cut short.
 use Rattle.std.specs.Prelude.{◌≡◌, ℕ, List, ◌++◌, Option, Some, None}
-use Rattle.sd_outside.specs.Streams.{Gains}
-
--- the front is a prefix of the whole
-abbrev pub IsFrontOf : {A : Type 0} → List A → List A → Type 0
-IsFrontOf {A} front whole = (rest : List A) × (front ++ rest ≡ whole)
+use Rattle.sd_outside.specs.Streams.{Gains, IsPrefixOf}
 
 -- the sink gained a prefix of the bytes
-abbrev pub GainsFront : Option (List ℕ) → Option (List ℕ) → List ℕ → Type 0
-GainsFront old new bytes = (front : List ℕ) × IsFrontOf front bytes × Gains old new front
+abbrev pub GainsPrefix : Option (List ℕ) → Option (List ℕ) → List ℕ → Type 0
+GainsPrefix old new bytes = (prefix : List ℕ) × IsPrefixOf prefix bytes × Gains old new prefix
 
 -- the sink gained bytes of which P holds
 abbrev pub GainsSome : Option (List ℕ) → Option (List ℕ) → (List ℕ → Type 0) → Type 0

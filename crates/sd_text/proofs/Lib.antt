@@ -4,7 +4,6 @@ pub mod Exits
 pub mod NumberLemmas
 pub mod HexCase
 pub mod CutLemmas
-pub mod PlaceLemmas
 pub mod ItemLemmas
 pub mod MacLemmas
 pub mod PacketLemmas
@@ -20,3 +19,4 @@ pub mod Loops
 pub mod Writes
 pub mod OneText
 pub mod Deciding
+pub mod ReadFits

@@ -15,7 +15,7 @@ use Rattle.sd_text.specs.Laws.{OneText}
 use Rattle.sd_text.proofs.Leading.{same_is, some_is, no_place, below_at}
 use Rattle.sd_text.proofs.Meanings.{is_pairs}
 
-when_is : (b : Bool) (x y : Value) → when b x ≡ Some y → (b ≡ true) × (x ≡ y)
+pub when_is : (b : Bool) (x y : Value) → when b x ≡ Some y → (b ≡ true) × (x ≡ y)
 when_is true x y e = (refl, cc e)
 when_is false x y e = absurd cc
 
@@ -27,7 +27,7 @@ digits_only low high s x e =
     let q = and_parts (same (decimal (digits_value 10 s)) s) (nat_le low (digits_value 10 s)) p.0 in
     sym (same_is (decimal (digits_value 10 s)) s q.0) ∙ ap (λ (v : Value). decimal (number_of v)) w.1
 
-sized_is : (p : ℕ → Bool) (o : Option (List ℕ)) (x : Value) → sized p o ≡ Some x → (bs : List ℕ) × (o ≡ Some bs) × (bytes bs ≡ x)
+pub sized_is : (p : ℕ → Bool) (o : Option (List ℕ)) (x : Value) → sized p o ≡ Some x → (bs : List ℕ) × (o ≡ Some bs) × (bytes bs ≡ x)
 sized_is p None x e = absurd cc
 sized_is p (Some bs) x e = (bs, refl, (when_is (p (length bs)) (bytes bs) x e).1)
 
@@ -120,13 +120,13 @@ word_only all s x p v = let f : bytes s ≡ x = cc v in ap bytes_of f
 
 -- ---- kinds
 
-record NameAt (names : List Text) (t : Text) (k n : ℕ) : Type 0 where
-  place : ℕ
-  sum : n ≡ k + place
-  below : place < length names
-  is : name_at names place ≡ t
+pub record NameAt (names : List Text) (t : Text) (k n : ℕ) : Type 0 where
+  pub place : ℕ
+  pub sum : n ≡ k + place
+  pub below : place < length names
+  pub is : name_at names place ≡ t
 
-place_name : (k : ℕ) (t : Text) (names : List Text) (n : ℕ) → place_from k t names ≡ Some n → NameAt names t k n
+pub place_name : (k : ℕ) (t : Text) (names : List Text) (n : ℕ) → place_from k t names ≡ Some n → NameAt names t k n
 place_name k t [] n e = absurd (no_place n e)
 place_name k t (one ∷ names) n e = by_test (same one t) refl e (λ f. place_name (k + 1) t names n f)
   where

@@ -10,7 +10,7 @@ use Rattle.sd_text.specs.Texts.{Text, fields, IsNumber, IsIp, IsAddr}
 use Rattle.sd_text.specs.Runs.{runs_text, IsRunsWithin}
 use Rattle.sd_text.specs.Answers.{Reads}
 use Rattle.sd_text.specs.Packets.{packet_text, IsFrameLine, IsUdpLine, IsPacketLine, head_of_udp}
-use Rattle.sd_text.specs.Writing.{AppendsFront}
+use Rattle.sd_text.specs.Writing.{AppendsPrefix}
 use Rattle.sd_text.proofs.Exits.{firsts, others}
 use Rattle.sd_text.proofs.NumberLemmas.{one_number}
 use Rattle.sd_text.proofs.MacLemmas.{one_ip}
@@ -37,7 +37,7 @@ pub udp_text : (src dst : Addr) (body : List ℕ) → packet_text (Udp src dst b
 udp_text src dst body = simp append_assoc
 
 -- a prefix of what follows a head, behind the head
-pub front_behind : (old mid new head rest : Text) → mid ≡ old ++ head → AppendsFront mid new rest → AppendsFront old new (head ++ rest)
+pub front_behind : (old mid new head rest : Text) → mid ≡ old ++ head → AppendsPrefix mid new rest → AppendsPrefix old new (head ++ rest)
 front_behind old mid new head rest e a = record {
   front = head ++ a.front;
   rest = a.rest;

@@ -4,7 +4,7 @@ use mathlib.Core.List.{append-nil}
 use Rattle.std.specs.List.{join_with_byte, flat_map}
 use Rattle.sd_text.specs.Texts.{Text}
 use Rattle.sd_text.specs.Runs.{Item, pairs, repeated, item_text, before, normal_items, runs_text}
-use Rattle.sd_text.specs.Writing.{run_length, WritesItem, AppendsFront}
+use Rattle.sd_text.specs.Writing.{run_length, WritesItem, AppendsPrefix}
 use Rattle.sd_text.proofs.RunLemmas.{front_run_is}
 
 -- each item behind a dot
@@ -66,10 +66,10 @@ writing_goes_on old now whole mid new rest left s dot w = record {
 pub writing_ends : (old now whole : Text) (rest : List ℕ) → rest ≡ [] → IsWriting old now whole rest → now ≡ old ++ whole
 writing_ends old now whole rest nothing s = s.appended ∙ ap (λ (t : Text). old ++ t) (sym (s.parts ∙ rw nothing (append-nil s.front)))
 
-pub front_written : (old now whole : Text) (rest : List ℕ) → IsWriting old now whole rest → AppendsFront old now whole
+pub front_written : (old now whole : Text) (rest : List ℕ) → IsWriting old now whole rest → AppendsPrefix old now whole
 front_written old now whole rest s = record { front = s.front; rest = dotted (normal_items rest); parts = s.parts; appended = s.appended }
 
-pub dot_written : (old now whole mid : Text) (rest : List ℕ) → 0 < length rest → IsWriting old now whole rest → mid ≡ now ++ (46 ∷ []) → AppendsFront old mid whole
+pub dot_written : (old now whole mid : Text) (rest : List ℕ) → 0 < length rest → IsWriting old now whole rest → mid ≡ now ++ (46 ∷ []) → AppendsPrefix old mid whole
 dot_written old now whole mid rest h s dot =
     let some = some_items rest h in
     record {
@@ -79,5 +79,5 @@ dot_written old now whole mid rest h s dot =
       appended = dot ∙ rw (s.appended, append_assoc) refl;
     }
 
-pub nothing_written : (old now whole : Text) → now ≡ old → AppendsFront old now whole
+pub nothing_written : (old now whole : Text) → now ≡ old → AppendsPrefix old now whole
 nothing_written old now whole same = record { front = []; rest = whole; parts = refl; appended = same ∙ sym (append-nil old) }

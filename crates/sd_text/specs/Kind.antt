@@ -298,6 +298,32 @@ is_single (where_zero K) = is_single K
 is_single (given n K) = is_single K
 is_single (such f K) = is_single K
 
+-- ---- kinds of which every value that is read is within the limits
+
+-- no number of the word has more than 64 bits, and no byte run more bytes than such a number says
+abbrev pub is_bounded_word : Word → Bool
+is_bounded_word (digits low high) = nat_lt high 18446744073709551616
+is_bounded_word (pairs n) = true
+is_bounded_word (run least most) = nat_lt most 18446744073709551616
+is_bounded_word (inner most) = true
+is_bounded_word (named least most) = true
+is_bounded_word (shown least most) = true
+is_bounded_word all = true
+
+abbrev pub is_bounded : Kind → Bool
+is_bounded void = true
+is_bounded (word w) = is_bounded_word w
+is_bounded (said t K) = is_bounded K
+is_bounded (between a K b) = is_bounded K
+is_bounded (A & B) = is_bounded A && is_bounded B
+is_bounded (many most c K) = is_bounded K
+is_bounded (choice names arm) = all_below (length names) (λ i. is_bounded (arm i))
+is_bounded (fork p A B) = is_bounded A && is_bounded B
+is_bounded (maybe p K) = is_bounded K
+is_bounded (where_zero K) = is_bounded K
+is_bounded (given n K) = is_bounded K
+is_bounded (such f K) = is_bounded K
+
 -- ---- kinds that are read in two ways
 
 -- two numbers with nothing between them, a name that stands twice, and a text that ends at a byte that may stand in it

@@ -2,7 +2,7 @@
 use Rattle.std.specs.Prelude.{◌≡◌, ◌⊎◌, ◌↔◌, ℕ, true, List, ◌++◌, Option, Some, None, IsTrue}
 use Rattle.sd_xdr.specs.Kind.{Value}
 use Rattle.sd_text.specs.Texts.{Text}
-use Rattle.sd_text.specs.Kind.{Kind, is_clear, is_single, stops, ends}
+use Rattle.sd_text.specs.Kind.{Kind, is_clear, is_single, is_bounded, stops, ends}
 use Rattle.sd_text.specs.Grammar.{Reads, writes, HasText}
 use Rattle.sd_text.specs.Reading.{reading, whole_reading}
 
@@ -24,6 +24,10 @@ ReadBeforeMore = (K : Kind) (s more : Text) (x : Value) → is_clear K ≡ true 
 -- What is written for a value within the limits is read as that value.
 abbrev pub WrittenIsRead : Type 0
 WrittenIsRead = (K : Kind) (x : Value) → HasText K x → Reads K (writes K x) x
+
+-- What is read is within the limits.
+abbrev pub ReadHasText : Type 0
+ReadHasText = (K : Kind) (s : Text) (x : Value) → is_bounded K ≡ true → Reads K s x → HasText K x
 
 -- Where no byte run stands, the text that is written is the only one.
 abbrev pub OneText : Type 0

@@ -1,6 +1,6 @@
 -- Reading from left to right. That this is the grammar is proved for every kind that is clear (Laws.antt).
-use Rattle.std.specs.Prelude.{◌≡◌, ℕ, zero, suc, ◌+◌, Bool, true, false, ◌==◌, if◌then◌else◌, List, [], ◌∷◌, length, ◌<◌, Option, Some, None, Result, Ok, Err}
-use Rattle.sd_xdr.specs.Kind.{Value, none, number, bytes, ◌⊗◌, number_of}
+use Rattle.std.specs.Prelude.{◌≡◌, ℕ, zero, suc, Bool, ◌==◌, if◌then◌else◌, List, [], ◌∷◌, length, ◌<◌, Option, Some, None, Result, Ok, Err}
+use Rattle.sd_xdr.specs.Kind.{Value, none, number, ◌⊗◌, number_of}
 use Rattle.sd_text.specs.declared.error.LineError.{LineError}
 use Rattle.sd_text.specs.Texts.{Text}
 use Rattle.sd_text.specs.Kind.{is_name, place_in, begins, Word, digits, holds, Kind, void, word, said, between, ◌&◌, many, choice, fork, maybe, where_zero, given, such}

@@ -28,7 +28,7 @@ pub record WritesItem (bytes : List ℕ) (old : Text) (rest : List ℕ) (new : T
   pub appended : new ≡ old ++ item_text item
 
 -- the text has a prefix of more at its end
-pub record AppendsFront (old new more : Text) : Type 0 where
+pub record AppendsPrefix (old new more : Text) : Type 0 where
   pub front : Text
   pub rest : Text
   pub parts : more ≡ front ++ rest

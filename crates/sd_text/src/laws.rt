@@ -6,7 +6,7 @@ ghost use Rattle.sd_outside.specs.declared.packet.Packet.{Packet};
 ghost use Rattle.sd_text.specs.Runs.{runs_text, IsRuns};
 ghost use Rattle.sd_text.specs.Packets.{packet_text, IsPacket, IsPacketLine};
 ghost use Rattle.sd_text.specs.Kind.{is_clear, two_numbers, two_names, open_end};
-ghost use Rattle.sd_text.specs.Laws.{OneValue, ReadingIsTheGrammar, ReadBeforeMore, WrittenIsRead, OneText};
+ghost use Rattle.sd_text.specs.Laws.{OneValue, ReadingIsTheGrammar, ReadBeforeMore, WrittenIsRead, ReadHasText, OneText};
 
 /// What is spelled is read, and what follows is left, where that ends it.
 #[tactic(auto, using(crate::proofs::Whole::read_before_more))]
@@ -29,6 +29,12 @@ pub fn reading_is_the_grammar()
 #[tactic(auto, using(crate::proofs::Writes::written_is_read))]
 pub fn written_is_read()
     ensures { WrittenIsRead }
+{}
+
+/// What is read is within the limits.
+#[tactic(auto, using(crate::proofs::ReadFits::read_has_text))]
+pub fn read_has_text()
+    ensures { ReadHasText }
 {}
 
 /// Kinds that are read in two ways aren't clear.

@@ -13,7 +13,6 @@
 mod class;
 mod error;
 mod fields;
-mod items;
 mod laws;
 mod packets;
 mod parts;
@@ -30,13 +29,12 @@ pub use error::{LineError, PacketLineError};
 pub use fields::{
     only_number, read_addr, read_ip, take_addr, take_end, take_ip, take_number, take_runs,
 };
-pub use items::{TextItem, take_many};
 pub use laws::{
-    one_text, one_value, packet_lines_are_read_again, read_before_more, reading_is_the_grammar,
-    runs_are_read_again, unclear_kinds, written_is_read,
+    one_text, one_value, packet_lines_are_read_again, read_before_more, read_has_text,
+    reading_is_the_grammar, runs_are_read_again, unclear_kinds, written_is_read,
 };
 pub use packets::{read_packet_line, write_packet_line};
-pub use parts::{Parts, place_of};
+pub use parts::Parts;
 pub use reader::{TextReader, is_word};
 pub use runs::{read_runs_within, write_runs};
 pub use values::{read_mac, read_number, same_text};

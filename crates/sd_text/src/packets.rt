@@ -3,7 +3,7 @@
 ghost use Rattle.std.specs.Prelude.{◌≡◌, ◌++◌, IfOk, IfErr, OnOk, OnErr};
 ghost use Rattle.sd_text.specs.Answers.{Reads};
 ghost use Rattle.sd_text.specs.Packets.{head_of_udp, packet_text, IsFrameLine, IsUdpLine, IsPacketLine, IsPacketLineError};
-ghost use Rattle.sd_text.specs.Writing.{AppendsFront};
+ghost use Rattle.sd_text.specs.Writing.{AppendsPrefix};
 
 use crate::error::{LineError, PacketLineError};
 use crate::fields::{take_addr, take_end, take_runs};
@@ -81,7 +81,7 @@ pub fn write_packet_line(
     text: &mut ByteList,
 ) -> Result<(), NoMemory>
     ensures ok { OnOk result (text.new ≡ text.old ++ packet_text packet.now) }
-    ensures err { OnErr result (AppendsFront text.old text.new (packet_text packet.now)) }
+    ensures err { OnErr result (AppendsPrefix text.old text.new (packet_text packet.now)) }
 {
     match packet {
         Packet::Frame(bytes) => {

@@ -1,17 +1,10 @@
 //! The parts of a text, one after another.
 
-ghost use Rattle.std.specs.Prelude.{◌≡◌, ◌==◌, ◌∷◌, [], MatchOption, position};
+ghost use Rattle.std.specs.Prelude.{◌≡◌, ◌∷◌, [], MatchOption};
 ghost use Rattle.sd_text.specs.Texts.{cut};
 
-use memchr::memchr;
+use sd_outside::place_of;
 use std::marker::Model;
-
-/// Where a byte stands first in a text.
-pub fn place_of(text: &[u8], byte: u8) -> Option<usize>
-    ensures { result ≡ position (λ b. b == byte) text.now }
-{
-    memchr(byte, text)
-}
 
 /// The parts that are left of a text that a byte separates.
 #[derive(Drop)]

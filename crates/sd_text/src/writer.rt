@@ -1,13 +1,15 @@
 //! Writing from left to right.
 
-ghost use Rattle.std.specs.Prelude.{◌≡◌, ◌++◌, ◌∷◌, [], OnOk};
+ghost use Rattle.std.specs.Prelude.{◌≡◌, ◌++◌, ◌∷◌, [], map, OnOk};
+ghost use Rattle.std.specs.List.{concat};
 ghost use Rattle.std.specs.Fmt.{decimal};
 ghost use Rattle.hex.specs.Hex.{encode_lower};
 ghost use Rattle.sd_text.specs.Runs.{runs_text};
 ghost use Rattle.sd_xdr.specs.Kind.{number, bytes};
 ghost use Rattle.sd_bootparams.specs.Layout.{ip_value};
-ghost use Rattle.sd_text.specs.Kind.{quoted, ip, addr, addr_value};
-ghost use Rattle.sd_text.specs.Grammar.{writes, escaped, is_plain};
+ghost use Rattle.sd_text.specs.Kind as kinds;
+ghost use Rattle.sd_text.specs.Kind.{ip, addr_value};
+ghost use Rattle.sd_text.specs.Grammar.{writes, escaped};
 
 use crate::quoting::is_plain;
 use crate::runs::write_runs;
@@ -96,6 +98,39 @@ impl TextWriter {
         self.dotted(c)?;
         self.dotted(d)?;
         Ok(())
+    }
+
+    /// A byte between quotation marks: itself, or a backslash and its two digits.
+    fn escaped(&mut self, byte: u8) -> Result<(), NoMemory>
+        ensures { OnOk result (self.new ≡ self.old ++ escaped byte) }
+    {
+        if is_plain(byte) {
+            return self.said(&[byte]);
+        }
+        self.said(b"\\")?;
+        self.text
+            .push_slice(hex::encode(self.alloc, [byte])?.as_bytes())
+    }
+
+    /// A text between quotation marks.
+    pub fn quoted(&mut self, bytes: &[u8]) -> Result<(), NoMemory>
+        ensures { OnOk result (self.new ≡ self.old ++ 34 ∷ (concat (map escaped bytes.now) ++ 34 ∷ [])) }
+    {
+        self.said(b"\"")?;
+        for byte in bytes {
+            self.escaped(*byte)?;
+        }
+        self.said(b"\"")
+    }
+
+    /// An address, a colon and a port.
+    #[tactic(auto, unfolding(crate::specs::Grammar::writes))]
+    pub fn addr(&mut self, addr: Addr) -> Result<(), NoMemory>
+        ensures { OnOk result (self.new ≡ self.old ++ writes kinds.addr (addr_value addr)) }
+    {
+        self.ip(addr.ip)?;
+        self.said(b":")?;
+        self.number(u64::from(addr.port))
     }
 
     /// All that was written.

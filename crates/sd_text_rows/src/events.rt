@@ -38,7 +38,7 @@ fn reads_what_strangers_send(rt: HostRuntime) -> Result<(), Fail> {
 }
 
 /// What follows the heading, with the number of the refused line, or none.
-const AFTER: [(&[u8], Option<u64>); 33] = [
+const AFTER: [(&[u8], Option<u64>); 29] = [
     (b"stranger 1 10.0.0.9:900 192.168.1.2:2048 00\naddr\n", None),
     (b"stranger 0 10.0.0.9:900 192.168.1.2:2048 00\n", Some(7)),
     (
@@ -87,11 +87,6 @@ const AFTER: [(&[u8], Option<u64>); 33] = [
         b"stranger 1 10.0.0.9:9 10.0.0.10:1 00\narch sun2\n",
         Some(8),
     ),
-    // Nothing can be made to fail yet.
-    (b"fault send 0\n", Some(7)),
-    (b"fault recv 0\n", Some(7)),
-    (b"fault disk 0\n", Some(7)),
-    (b"fault read 0\n", Some(7)),
 ];
 
 #[test]

@@ -6,7 +6,7 @@ use Rattle.sd_xdr.specs.declared.error.MsgError.TheVariants.{Xdr, RpcVersion, Au
 use Rattle.sd_xdr.specs.Kind.{part, whole, Kind, Value}
 use Rattle.sd_xdr.specs.Grammar.{word_bytes, Reads, Refuses, Fails, Answers, filled, counted}
 use Rattle.sd_xdr.specs.Reading.{Cursor, Read, start, Stops, Takes, reading}
-use Rattle.sd_xdr.specs.Laws.{PartsAreKept, OneValue, NeverBoth, OneRefusal, EitherWay, TakesFront, ReadingIsTheGrammar}
+use Rattle.sd_xdr.specs.Laws.{PartsAreKept, OneValue, NeverBoth, OneRefusal, EitherWay, TakesPrefix, ReadingIsTheGrammar}
 use Rattle.sd_outside.specs.Bytes.{IsBytes}
 use Rattle.sd_xdr.proofs.Spelled.{gives, not_whole}
 use Rattle.sd_xdr.proofs.Sound.{spelled, refused, ok_is}
@@ -92,7 +92,7 @@ unfolding word_bytes filled counted
 either_way K bs fits = by_reading K bs fits (reading K (start bs)) refl
 
 -- a value that is spelled at the front is read, and the refusal of the grammar is given
-front_again : (K : Kind part) (c : Cursor) (x : Value) (d : Cursor) → TakesFront K c x d → reading K c ≡ Ok (x, d)
+front_again : (K : Kind part) (c : Cursor) (x : Value) (d : Cursor) → TakesPrefix K c x d → reading K c ≡ Ok (x, d)
 unfolding word_bytes filled counted
 front_again K c x d t =
     let read : reading K (from c.at (t.front ++ d.rest)) ≡ gives x (c.at + length t.front) d.rest = reads_again part K t.front x t.reads c.at d.rest not_whole in

@@ -46,7 +46,7 @@ abbrev pub ReadHasSpelling : Type 0
 ReadHasSpelling = (e : End) (K : Kind e) (bs : List ℕ) (x : Value) → Reads e K bs x → HasSpelling K x
 
 -- A reader takes the bytes of a value from the front of those that are left.
-pub record TakesFront (K : Kind part) (c : Cursor) (x : Value) (d : Cursor) : Type 0 where
+pub record TakesPrefix (K : Kind part) (c : Cursor) (x : Value) (d : Cursor) : Type 0 where
   pub front : List ℕ
   pub parts : c.rest ≡ front ++ d.rest
   pub place : d.at ≡ c.at + length front
@@ -56,5 +56,5 @@ pub record TakesFront (K : Kind part) (c : Cursor) (x : Value) (d : Cursor) : Ty
 -- grammar has it.
 abbrev pub ReadingIsTheGrammar : Type 0
 ReadingIsTheGrammar = (K : Kind part) (c : Cursor) → IsBytes c.rest →
-    ((x : Value) (d : Cursor) → (reading K c ≡ Ok (x, d)) ↔ TakesFront K c x d)
+    ((x : Value) (d : Cursor) → (reading K c ≡ Ok (x, d)) ↔ TakesPrefix K c x d)
     × ((r : MsgError) → (reading K c ≡ Err r) ↔ Refuses part K c.at c.rest r)

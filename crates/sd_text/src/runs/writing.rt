@@ -2,7 +2,7 @@
 
 ghost use Rattle.std.specs.Prelude.{◌≡◌, ◌<◌, ◌++◌, length, IfOk, OnOk, OnErr};
 ghost use Rattle.sd_text.specs.Runs.{pairs, repeated, item_text, runs_text};
-ghost use Rattle.sd_text.specs.Writing.{run_length, IsFirstItem, WritesItem, AppendsFront};
+ghost use Rattle.sd_text.specs.Writing.{run_length, IsFirstItem, WritesItem, AppendsPrefix};
 
 use sd_outside::{ByteList, NoMemory};
 use std::alloc::Global;
@@ -87,7 +87,7 @@ fn write_item<'a>(alloc: Global, bytes: &'a [u8], text: &mut ByteList) -> Result
 /// Writes the byte run text of some bytes at the end of a text. A refused call leaves a prefix of it there.
 pub fn write_runs(alloc: Global, bytes: &[u8], text: &mut ByteList) -> Result<(), NoMemory>
     ensures ok { OnOk result (text.new ≡ text.old ++ runs_text bytes.now) }
-    ensures err { OnErr result (AppendsFront text.old text.new (runs_text bytes.now)) }
+    ensures err { OnErr result (AppendsPrefix text.old text.new (runs_text bytes.now)) }
 {
     if bytes.is_empty() {
         return text.push_slice(b"-");

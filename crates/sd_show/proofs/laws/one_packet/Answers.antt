@@ -1,4 +1,4 @@
-use Rattle.sd_show.proofs.OnePacket.{one_packet}
+use Rattle.sd_show.proofs.OneLine.{one_packet}
 use Rattle.sd_show.proofs.laws.one_packet.Goals as goal
 
 pub returns : goal.returns

@@ -1,6 +1,6 @@
 use Rattle.std.proofs.Common.{◌<◌, ◌^◌, ℕ, ◌-◌, length, sym, ap, subst, ◌∙◌, arith}
 use Rattle.sd_show.specs.declared.error.ShowError.{ShowError}
-use Rattle.sd_show.specs.Messages.{message_parts}
+use Rattle.sd_show.specs.Lines.{carries_message}
 use Rattle.sd_show.specs.Showing.{IsMessageNotShown, content_length, moved, PlaceFits}
 use Rattle.sd_show.proofs.BodiesShown.{body_is, content_within, refusal_handed, behind_head}
 use Rattle.sd_show.proofs.packets.show_message.Goals as goal
@@ -35,5 +35,5 @@ returns-clause-shows c =
       other = c.requires;
       reads = c.in_ok-message.ensures.answers;
       body = body_is c.args.seen.now c.args.src c.args.dst m c.asked_of-asked.result said.0 c.asked_of-asked.ensures said.1;
-      means = behind_head c.args.src c.args.dst c.in_ok-text.text c.push_message.new.text (message_parts m said.0) c.in_ok-text.ensures said.2;
+      means = c.finish.ensures ∙ behind_head c.args.src c.args.dst c.in_ok-writer.writer c.push_message.new.writer (carries_message m said.0) c.in_ok-writer.ensures said.2;
     }

@@ -1,10 +1,8 @@
-use Rattle.std.proofs.Common.{◌≡◌, refl, ap, length, arith}
-use Rattle.sd_show.specs.declared.procedures.Known.{Known}
-use Rattle.sd_show.specs.Programs.{all_known, known_text}
-use Rattle.sd_show.proofs.Names.{none_ends}
+use Rattle.sd_show.proofs.Knowing.{at_name, later_name}
 use Rattle.sd_show.proofs.procedures.known_by_name.Goals as goal
 
-pub returns : goal.returns
-returns c =
-    let all = c.all_known-known-items.ensures in
-    none_ends (λ (k : Known). c.args.text.now ≡ known_text k) all_known c.loop-known.known-index refl (omega (arith, c.loop-known-test.false, ap length all)) c.loop-known.invariant
+pub returns-clause-at : goal.returns-clause-at
+returns-clause-at c = at_name c.args.text.now c.find_name.result c.find_name.ensures
+
+pub returns-clause-later : goal.returns-clause-later
+returns-clause-later c = later_name c.args.text.now c.find_name.result c.find_name.ensures

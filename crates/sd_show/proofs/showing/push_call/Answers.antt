@@ -1,22 +1,21 @@
-use Rattle.std.proofs.Common.{◌++◌, ◌∷◌, [], codes}
+use Rattle.std.proofs.Common.{ℕ, ◌++◌, ap, ◌∙◌}
 use Rattle.std.specs.Fmt.{decimal}
+use Rattle.sd_xdr.specs.Kind.{◌⊗◌}
+use Rattle.sd_rpc_msg.specs.Layout.{auth_value}
+use Rattle.sd_text.specs.Grammar.{writes}
 use Rattle.sd_show.specs.Calls.{procedure_of}
-use Rattle.sd_show.specs.Parts.{exact, auth_parts}
-use Rattle.sd_show.specs.Messages.{asked_parts}
-use Rattle.sd_show.proofs.Spaced.{added, word_added}
+use Rattle.sd_show.specs.Lines.{asked, asked_value, auths}
+use Rattle.sd_show.proofs.Joined.{call_text}
 use Rattle.sd_show.proofs.showing.push_call.Goals as goal
 
 pub returns : goal.returns
+unfolding writes
 returns c =
-    let asked = c.in_ok-push_asked.ensures in
     let call = c.args.call.now in
-    let text = c.args.text.now in
-    let head = exact (codes "call") ∷ exact (decimal call.xid) ∷ [] in
-    let parts = asked_parts (procedure_of call) asked.0 in
-    let cred = auth_parts (codes "cred") call.cred in
-    let verf = auth_parts (codes "verf") call.verf in
-    let begun = added text c.push_word.new.text c.push_spaced_number.new.text (exact (codes "call") ∷ []) (exact (decimal call.xid) ∷ [])
-    (word_added text c.push_word.new.text (codes "call") c.in_ok-push_word.ensures) (word_added c.push_word.new.text c.push_spaced_number.new.text (decimal call.xid) c.in_ok-push_spaced_number.ensures) in
-    let named = added text c.push_spaced_number.new.text c.push_asked.new.text head parts begun asked.2 in
-    let both = added c.push_asked.new.text c.push_auth.new.text c.push_auth-2.new.text cred verf c.in_ok-push_auth.ensures c.in_ok-push_auth-2.ensures in
-    (asked.0, asked.1, added text c.push_asked.new.text c.push_auth-2.new.text (head ++ parts) (cred ++ verf) named both)
+    let h = c.in_ok-push_asked.ensures in
+    let xid = c.in_ok-number.ensures ∙ ap (λ (n : ℕ). c.args.writer.now ++ decimal n) c.from.ensures in (
+      h.0,
+      h.1,
+      call_text c.args.writer.now (decimal call.xid) (writes asked (asked_value (procedure_of call) h.0)) (writes auths (auth_value call.cred ⊗ auth_value call.verf))
+          c.number.new.self c.said.new.self c.push_asked.new.writer c.push_auths.new.writer xid c.in_ok-said.ensures h.2 c.in_ok-push_auths.ensures,
+    )

@@ -1,5 +1,5 @@
 use Rattle.std.proofs.Common.{◌≡◌, ◌-◌, ◌^◌, length}
-use Rattle.sd_streams.specs.Reading.{Gave}
+use Rattle.sd_outside.specs.Streams.{Gave}
 use Rattle.sd_streams.proofs.reading.read_all.Given as goal
 
 abbrev pub invariant-reading : goal.invariant-reading

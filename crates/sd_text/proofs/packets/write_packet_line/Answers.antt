@@ -1,7 +1,7 @@
 use Rattle.std.proofs.Common.{◌≡◌, ◌++◌, ◌∙◌, ap, refl, append_assoc}
 use Rattle.std.proofs.lemmas.Result.{on_err_weaker, on_ok_weaker}
 use Rattle.sd_text.specs.Packets.{packet_text, head_of_udp}
-use Rattle.sd_text.specs.Writing.{AppendsFront}
+use Rattle.sd_text.specs.Writing.{AppendsPrefix}
 use Rattle.sd_text.proofs.Exits.{on_err}
 use Rattle.sd_text.proofs.WriteLemmas.{nothing_written}
 use Rattle.sd_text.specs.Runs.{runs_text}
@@ -21,7 +21,7 @@ returns-in_ok-push_slice-in-Udp-clause-err c =
 pub returns-in_err-push_slice-in-Udp-clause-err : goal.returns-in_err-push_slice-in-Udp-clause-err
 returns-in_err-push_slice-in-Udp-clause-err c =
     let same : c.push_slice-in-Udp.new.self ≡ c.args.text.now = (c.in_err-push_slice-in-Udp.ensures).err in
-    let front : AppendsFront c.args.text.now c.push_slice-in-Udp.new.self (packet_text c.args.packet.now) = nothing_written c.args.text.now _ _ same in
+    let front : AppendsPrefix c.args.text.now c.push_slice-in-Udp.new.self (packet_text c.args.packet.now) = nothing_written c.args.text.now _ _ same in
     on_err _ front
 
 pub returns-in_ok-push_slice-in-Udp-clause-ok : goal.returns-in_ok-push_slice-in-Udp-clause-ok

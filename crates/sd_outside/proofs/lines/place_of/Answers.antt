@@ -1,0 +1,5 @@
+use Rattle.sd_outside.proofs.FirstPlace.{first_place}
+use Rattle.sd_outside.proofs.lines.place_of.Goals as goal
+
+pub returns : goal.returns
+returns c = first_place c.args.byte c.args.text.now c.memchr.result c.memchr.ensures
