@@ -6,6 +6,8 @@ use Rattle.sd_portmap.specs.Layout.{pmap_port}
 use Rattle.sd_config.specs.declared.config.Config.{Config}
 use Rattle.sd_config.specs.declared.events.Fate.{Fate}
 use Rattle.sd_config.specs.declared.events.Stranger.{Stranger}
+use Rattle.sd_config.specs.declared.events.PlannedFault.{PlannedFault}
+use Rattle.sd_config.specs.declared.events.PlannedFault.TheVariants as planned
 use Rattle.sd_config.specs.declared.events.Events.{Events}
 use Rattle.sd_config.specs.Config.{IsWithin}
 
@@ -47,6 +49,11 @@ pub record IsStranger (client server : ℕ) (line : Stranger) : Type 0 where
   pub from : IsElsewhere client server line.src
   pub body : length line.body ≤ body_limit
 
+abbrev pub IsPlanned : PlannedFault → Type 0
+IsPlanned (planned.Send id) = id < 2 ^ 32
+IsPlanned (planned.Recv call) = call < 2 ^ 32
+
 pub record IsEvents (c : Config) (events : Events) : Type 0 where
   pub fates : All (IsFate c.life) events.fates
   pub strangers : All (IsStranger c.client.ip c.server.ip) events.strangers
+  pub faults : All IsPlanned events.faults

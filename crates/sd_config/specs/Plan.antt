@@ -1,8 +1,11 @@
 -- What events say of a run.
-use Rattle.std.specs.Prelude.{ℕ, ◌==◌, List, map, filter, Bool, false}
+use Rattle.std.specs.Prelude.{ℕ, ◌==◌, List, [], length, map, filter, Bool, true, false}
+use Rattle.std.specs.List.{list_any}
 use Rattle.sd_outside.specs.declared.packet.Packet.{Packet}
 use Rattle.sd_outside.specs.declared.packet.Packet.TheVariants.{Udp}
 use Rattle.sd_config.specs.declared.events.Stranger.{Stranger}
+use Rattle.sd_config.specs.declared.events.PlannedFault.{PlannedFault}
+use Rattle.sd_config.specs.declared.events.PlannedFault.TheVariants as planned
 use Rattle.sd_config.specs.declared.events.Events.{Events}
 use Rattle.sd_config.specs.Events.{Fates, fates_of}
 
@@ -35,13 +38,21 @@ strays_packet line = Udp line.src line.dst line.body
 abbrev pub strays_of : Events → Strays
 strays_of events tick = map strays_packet (filter (λ line. line.tick == tick) events.strangers)
 
--- Nothing crashes, and nothing fails.
+abbrev pub fails_send : ℕ → PlannedFault → Bool
+fails_send id (planned.Send named) = named == id
+fails_send id (planned.Recv call) = false
+
+abbrev pub is_receive : PlannedFault → Bool
+is_receive (planned.Send id) = false
+is_receive (planned.Recv call) = true
+
+-- Nothing crashes, and no access of the disk fails.
 abbrev pub plan_of : Events → Plan
 plan_of events = record {
   fates = fates_of events;
   crashes = λ id copy. false;
   strays = strays_of events;
-  sends = λ id. false;
-  receives = 0;
+  sends = λ id. list_any (fails_send id) events.faults;
+  receives = length (filter is_receive events.faults);
   accesses = 0;
 }

@@ -31,6 +31,18 @@ pub struct Stranger {
 /// Datagrams of strangers.
 pub type StrangerList = ListOf<Stranger>;
 
+/// A fault of the client's network that is planned.
+#[derive(Clone, Copy, Debug, PartialEq, Eq)]
+pub enum PlannedFault {
+    /// The client's send of the packet with this id fails, though the packet goes out.
+    Send { id: u64 },
+    /// This receive of the client fails, counted from 0.
+    Recv { call: u64 },
+}
+
+/// Planned faults. The same may be there several times.
+pub type FaultList = ListOf<PlannedFault>;
+
 /// What the event lines say.
 #[derive(Debug, Drop)]
 pub struct Events {
@@ -38,4 +50,6 @@ pub struct Events {
     pub fates: FateList,
     /// What strangers send, in the order of the lines.
     pub strangers: StrangerList,
+    /// The planned faults.
+    pub faults: FaultList,
 }

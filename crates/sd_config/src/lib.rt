@@ -15,6 +15,8 @@ pub use command::{Command, CommandList};
 pub use config::{
     BootFile, BootFileList, ClientConfig, Config, Machine, RootItem, RootItemList, SwapLine,
 };
-pub use events::{Events, Fate, FateList, Stranger, StrangerList, TickList};
+pub use events::{
+    Events, Fate, FateList, FaultList, PlannedFault, Stranger, StrangerList, TickList,
+};
 pub use stage::Stage;
 pub use told::Told;

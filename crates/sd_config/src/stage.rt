@@ -15,6 +15,14 @@ pub enum Stage {
     Getport,
     /// Asking for a handle of its root (RFC 1094, appendix A).
     Mnt,
+    /// Asking which file a directory calls by a name (RFC 1094, section 2.2.5).
+    Lookup,
+    /// Asking which path a link names (RFC 1094, section 2.2.6).
+    Readlink,
+    /// Asking for bytes of a file (RFC 1094, section 2.2.7).
+    Read,
+    /// Asking for the attributes of a file (RFC 1094, section 2.2.2).
+    Getattr,
     /// Letting time pass.
     Wait,
 }

@@ -53,9 +53,30 @@ failing_record c = refl
 not_failing : (c : Config) → IsLawful c (calm 0) failing → ⊥
 not_failing c lawful = omega (arith, lawful.receives)
 
--- where a line names its packet, the first send fails, and so the second can't come first
+-- ---- a send fails
+
+-- A line names the first packet: its send fails, though it goes out, and so it is served as the second is.
 abbrev named : Plan
 named = record (calm 0) { sends = λ id. id == 0 }
+
+named_row : (c : Config) → 2 ≤ c.life → IsLawful c named failing × EndsAtRest c named failing
+unfolding reading is_swap_access
+named_row c life = let row = failing_row c life in (
+  record {
+    orderly = record {
+      allowed = row.0.orderly.allowed;
+      in_turn = row.0.orderly.in_turn;
+      stops = row.0.orderly.stops;
+      strays = row.0.orderly.strays;
+      sends = (λ named. (Send frame ∷ Tick ∷ Serve 0 ∷ Serve 1 ∷ [], refl), (λ named. absurd cc, tt));
+      faults = omega arith;
+    };
+    receives = omega arith;
+  },
+  record { server = row.1.server; strangers = row.1.strangers },
+)
+
+-- and so the second can't come first
 
 not_unfailing : (c : Config) → IsLawful c named (Send frame ∷ Send frame ∷ []) → ⊥
 not_unfailing c lawful = let next = lawful.orderly.sends.0 refl in absurd cc

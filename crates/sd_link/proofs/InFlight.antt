@@ -249,7 +249,7 @@ module _ (c : Config) (P : Packet → Type 0) (Q : Session → Type 0) (R : Addr
       of false = other (is_session_port port) refl
 
   -- what the server does with a packet
-  reply_fine : (tick : ℕ) (part : ServerPart) (packet : Packet) → Asks R O packet → AllByRecursion Q part.sessions → Fine P Q (reply c tick part packet)
+  pub reply_fine : (tick : ℕ) (part : ServerPart) (packet : Packet) → Asks R O packet → AllByRecursion Q part.sessions → Fine P Q (reply c tick part packet)
   reply_fine tick part (Frame bytes) a q = (k.frames bytes, q)
   reply_fine tick part (Udp src dst body) a q = of (is_heard c dst)
     where

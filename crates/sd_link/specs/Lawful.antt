@@ -10,11 +10,8 @@ use Rattle.sd_config.specs.Plan.{Crashes, Strays, FailingSends, Plan}
 use Rattle.sd_link.specs.World.{World, Flying, Sender, Stranger, start}
 use Rattle.sd_services.specs.Sessions.{is_due}
 use Rattle.sd_link.specs.Steps.{Step, Tick, Send, Stray, Serve, Crash, Fault, Settle, Data, End, Get, Fail, Entry, Served, Crashed, Faulted, Got, after, entries_of, run, record_of, AllAllowed, goes_to_server, goes_to_client}
+use Rattle.sd_outside.specs.Streams.{IsPrefixOf}
 use Rattle.sd_link.specs.Parts.{fails_in, faults_in}
-
--- the front is a prefix of the whole
-abbrev pub IsFrontOf : {A : Type 0} → List A → List A → Type 0
-IsFrontOf {A} front whole = (rest : List A) × (front ++ rest ≡ whole)
 
 -- a copy for each delay that ends at this tick
 abbrev pub copies_at : ℕ → List ℕ → ℕ × Flying → List ℕ
@@ -88,7 +85,7 @@ EndsWithGet steps = (before : List Step) × (id : ℕ) × (packet : Packet) × (
 
 -- this id is the next that is given to the server
 abbrev pub IsNextServed : Config → Fates → World → List Entry → ℕ → Type 0
-IsNextServed c fates w entries id = IsFrontOf (served_at w.tick entries ++ id ∷ []) (due_to_server c fates w)
+IsNextServed c fates w entries id = IsPrefixOf (served_at w.tick entries ++ id ∷ []) (due_to_server c fates w)
 
 -- Whether it is the turn of a step, after the record so far. When strangers send is said below.
 abbrev pub InTurn : Config → Fates → World → List Entry → Step → Type 0
@@ -105,7 +102,7 @@ InTurn c fates w entries (Data number) = AllServed c fates w entries × IsNextDu
 InTurn c fates w entries (End number) = AllServed c fates w entries × IsNextDue c w number
 -- the client sends, and gets the next that is due, once the server is done
 InTurn c fates w entries (Send packet) = ServerRests c fates w entries
-InTurn c fates w entries (Get id packet) = ServerRests c fates w entries × IsFrontOf (got_at w.tick entries ++ id ∷ []) (due_to_client c fates w)
+InTurn c fates w entries (Get id packet) = ServerRests c fates w entries × IsPrefixOf (got_at w.tick entries ++ id ∷ []) (due_to_client c fates w)
 InTurn c fates w entries Fail = ServerRests c fates w entries
 InTurn c fates w entries (Stray packet) = Unit {0}
 
@@ -158,7 +155,7 @@ AllStrayed strays w = strayed w ≡ strays w.tick
 
 -- Strangers send what they send at a tick, in order, before anything else happens in it.
 abbrev pub StraysAsNamed : Strays → World → Step → Type 0
-StraysAsNamed strays w (Stray packet) = IsFrontOf (strayed w ++ packet ∷ []) (strays w.tick)
+StraysAsNamed strays w (Stray packet) = IsPrefixOf (strayed w ++ packet ∷ []) (strays w.tick)
 StraysAsNamed strays w others = AllStrayed strays w
 
 abbrev pub AllStrayAsNamed : Strays → Config → World → List Step → Type 0

@@ -40,7 +40,7 @@ pub record IsTries (request : Packet) (replies : Packet → List Packet) (rests 
 
 -- Below, `settled` tells of the first steps of a part whether nothing that is due still waits for the client after them.
 
--- the same, of the steps beyond these
+-- what `settled` tells of the steps behind this part
 abbrev pub beyond : (List Step → Type 0) → List Step → List Step → Type 0
 beyond settled part steps = settled (part ++ steps)
 
@@ -80,10 +80,18 @@ pub record Answered {A : Type 0} (settled : List Step → Type 0) (request : Pac
   pub asks : Asks settled request hearing.replies tries wait part
   pub ends : EndsMatched hearing.match x part
 
--- the last try got a flood, and nothing that was got matched
+-- the last thing that happened is that a packet was got, and what the client sends for it was sent
+pub record EndsWithPacket (replies : Packet → List Packet) (part : List Step) : Type 0 where
+  pub before : List Step
+  pub id : ℕ
+  pub packet : Packet
+  pub cut : part ≡ before ++ Get id packet ∷ map Send (replies packet)
+
+-- the last try ended with the last packet of a flood, and nothing that was got matched
 pub record Flooded {A : Type 0} (settled : List Step → Type 0) (request : Packet) (hearing : Hearing A) (tries wait : ℕ) (part : List Step) : Type 0 where
   pub asks : Asks settled request hearing.replies tries wait part
   pub many : length (got_in asks.last) ≡ flood_limit
+  pub ends : EndsWithPacket hearing.replies asks.last
   pub unmatched : AreUnmatched hearing.match (got_in part)
 
 -- all tries were made, all in vain, and nothing that was got matched
@@ -100,18 +108,19 @@ pub record TimedOut {A : Type 0} (settled : List Step → Type 0) (request : Pac
 abbrev pub FailsToSend : Packet → List Step → Type 0
 FailsToSend packet part = (part ≡ Fail ∷ []) ⊎ (part ≡ Send packet ∷ Fail ∷ [])
 
--- The network failed while the client waited for packets, or at what it sends for one. The failure is the last step.
+-- The network failed while the client waited for packets, or at what it sends for one, before a flood was got. The failure is the last step.
 pub data FailsToHear {A : Type 0} (hearing : Hearing A) : List Step → Type 0 where
-  at_wait : (rest : List Step) → RepliesAtOnce hearing.replies rest → FailsToHear hearing (rest ++ Fail ∷ [])
-  at_reply : (rest : List Step) (id : ℕ) (packet reply : Packet) (failed : List Step) → RepliesAtOnce hearing.replies rest → hearing.replies packet ≡ reply ∷ [] → FailsToSend reply failed → FailsToHear hearing (rest ++ Get id packet ∷ failed)
+  at_wait : (rest : List Step) → RepliesAtOnce hearing.replies rest → length (got_in rest) < flood_limit → FailsToHear hearing (rest ++ Fail ∷ [])
+  at_reply : (rest : List Step) (id : ℕ) (packet reply : Packet) (failed : List Step) → RepliesAtOnce hearing.replies rest → length (got_in rest) < flood_limit → hearing.replies packet ≡ reply ∷ [] → FailsToSend reply failed
+      → FailsToHear hearing (rest ++ Get id packet ∷ failed)
 
 -- The network failed in one try: at the request, or behind it.
 pub data FailsToAsk {A : Type 0} (request : Packet) (hearing : Hearing A) : List Step → Type 0 where
   at_request : (failed : List Step) → FailsToSend request failed → FailsToAsk request hearing failed
   behind_request : (rest : List Step) → FailsToHear hearing rest → FailsToAsk request hearing (Send request ∷ rest)
 
--- The network failed in the last try. Those before it were in vain, and nothing that was got matched. The last waits no longer and gets
--- no more packets than a flood.
+-- The network failed in the last try, which waits no longer than the others. Those before it were in vain, and nothing that was got
+-- matched.
 pub record Failed {A : Type 0} (settled : List Step → Type 0) (request : Packet) (hearing : Hearing A) (tries wait : ℕ) (part : List Step) : Type 0 where
   pub rests : List (List Step)
   pub before : List Step
@@ -121,6 +130,5 @@ pub record Failed {A : Type 0} (settled : List Step → Type 0) (request : Packe
   pub vain : AreInVain settled request wait rests
   pub fails : FailsToAsk request hearing last
   pub short : ticks_in last ≤ wait
-  pub most : length (got_in last) ≤ flood_limit
   pub unmatched : AreUnmatched hearing.match (got_in part)
   pub cut : part ≡ before ++ last

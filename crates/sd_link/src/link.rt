@@ -1,7 +1,7 @@
 //! The client's way into the world.
 ghost use Rattle.std.specs.Prelude.{◌≡◌, ℕ, ◌≤◌, ◌++◌, List, length, Option, OnOk, OnErr, IfSome};
 ghost use Rattle.sd_link.specs.Steps.{History, whole_record};
-ghost use Rattle.sd_link.specs.Lawful.{IsFrontOf};
+ghost use Rattle.sd_outside.specs.Streams.{IsPrefixOf};
 ghost use Rattle.sd_link.specs.Printing.{record_text};
 ghost use Rattle.sd_link.specs.Link.{Moves, IsNow, Sends, Receives, LinkCause, Counts, last_tick, Drains, IsReached, IsDrained, IsAtRest};
 
@@ -42,8 +42,8 @@ pub trait Link {
         ensures tick { IsNow (told self.new) (clock self.new) }
         ensures world { IfSome (told self.new) IsReached }
         // What was drained is the text of a prefix of the record.
-        ensures front { IfSome (told self.new) (λ h. IsFrontOf (drained self.new) (record_text (whole_record h))) }
-        ensures faults { faults self.old ≤ faults self.new }
+        ensures prefix { IfSome (told self.new) (λ h. IsPrefixOf (drained self.new) (record_text (whole_record h))) }
+        ensures faults { faults self.new ≡ faults self.old }
         ensures handed { handed self.new ≡ handed self.old }
         ensures drained { drained self.new ≡ drained self.old };
 

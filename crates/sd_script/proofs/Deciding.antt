@@ -1,6 +1,6 @@
 -- What can be decided: names, paths, and lists of numbers.
-use Rattle.std.proofs.Common.{◌≡◌, ◌⊎◌, ℕ, ◌<◌, ◌≤◌, eqb, List, [], ◌∷◌, ◌++◌, length, refl, sym, ap, subst, ◌∙◌, arith, inl, inr, codes}
-use Rattle.std.specs.List.{All, AllPass, AllZip, slice_split}
+use Rattle.std.proofs.Common.{◌≡◌, ℕ, eqb, List, [], ◌∷◌, ◌++◌, length, sym, ap, subst, inl, inr, codes}
+use Rattle.std.specs.List.{All, AllZip, slice_split}
 use Rattle.std.proofs.lemmas.Bool.{cases_eq}
 use Rattle.sd_text.specs.Texts.{Text, IsNumber}
 use Rattle.sd_text.proofs.Deciding.{Settled, Way, both, not_so, as_well, le_settled, text_settled, all_settled, pass_settled, number_way}

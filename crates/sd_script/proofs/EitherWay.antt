@@ -1,16 +1,17 @@
 -- A text is that of a script, or has a first line outside.
-use Rattle.std.proofs.Common.{◌≡◌, ◌⊎◌, ℕ, ◌+◌, ◌<◌, ◌≤◌, List, [], ◌∷◌, ◌++◌, length, refl, sym, ap, subst, ◌∙◌, arith, inl, inr, append_assoc}
+use Rattle.std.proofs.Common.{◌≡◌, ◌⊎◌, ℕ, ◌+◌, ◌<◌, List, [], ◌∷◌, ◌++◌, length, refl, sym, subst, ◌∙◌, arith, inl, inr, append_assoc}
 use mathlib.Core.List.{append-nil}
 use Rattle.std.specs.List.{concat}
 use Rattle.std.proofs.lemmas.Bool.{cases_lt}
-use Rattle.sd_script.specs.declared.draft.Section.{Section}
 use Rattle.sd_script.specs.declared.draft.Draft.{Draft}
 use Rattle.sd_script.specs.declared.script.Script.{Script}
 use Rattle.sd_text.specs.Texts.{Text}
 use Rattle.sd_script.specs.Limits.{input_limit}
-use Rattle.sd_script.specs.Grammar.{lines, without_feed, blank, script_of, IsLine, Leads, IsWhole, Says, IsScript, IsFirstOutside}
+use Rattle.sd_outside.specs.Lines.{lines, without_feed}
+use Rattle.sd_script.specs.Grammar.{blank, script_of, IsLine, IsWhole, Says, IsScript, IsFirstOutside}
 use Rattle.sd_text.proofs.Deciding.{Settled}
-use Rattle.sd_script.proofs.LineWays.{line_way, whole_settled}
+use Rattle.sd_script.proofs.Sections.{whole_settled}
+use Rattle.sd_script.proofs.LineWays.{line_way}
 use Rattle.sd_script.proofs.ScriptLemmas.{Leads-snoc, concat-snoc, said_whole, said_early}
 
 abbrev pub IsEither : Text → Type 0

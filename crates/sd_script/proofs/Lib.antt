@@ -13,5 +13,7 @@ pub mod IdLemmas
 pub mod MachineLemmas
 pub mod RecordLemmas
 pub mod Deciding
+pub mod Sections
+pub mod EventWays
 pub mod LineWays
 pub mod EitherWay

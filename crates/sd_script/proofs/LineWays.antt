@@ -1,14 +1,11 @@
 -- Whether a line leads on from a draft: it leads to one, or to none.
-use Rattle.std.proofs.Common.{◌≡◌, ◌≢◌, ◌⊎◌, ℕ, zero, suc, ◌+◌, ◌-◌, ◌<◌, ◌≤◌, ◌^◌, List, [], ◌∷◌, ◌++◌, length, Option, Some, None, refl, sym, ap, subst, ◌∙◌, arith, inl, inr, IfSome, codes}
-use Rattle.std.specs.List.{All, AllZip}
+use Rattle.std.proofs.Common.{◌≡◌, ◌≢◌, ◌⊎◌, ℕ, ◌+◌, ◌<◌, ◌^◌, List, [], ◌∷◌, ◌++◌, length, Some, refl, sym, ap, subst, ◌∙◌, arith, inl, inr}
 use Rattle.std.proofs.lemmas.Bool.{cases_eq}
 use Rattle.sd_bootparams.specs.declared.book.Host.{Host}
 use Rattle.sd_bootparams.specs.Contents.{Contents}
 use Rattle.sd_bootparams.specs.declared.draft.Draft as file
-use Rattle.sd_bootparams.specs.declared.draft.Next.{Next}
-use Rattle.sd_bootparams.specs.declared.params.Why.{Why}
 use Rattle.sd_bootparams.specs.File.{Part, adding, fault, IsFaultless}
-use Rattle.sd_bootparams.specs.LineByLine.{fed, line_parts, after_line, Says}
+use Rattle.sd_bootparams.specs.LineByLine.{fed, line_parts, after_line}
 use Rattle.sd_bootparams.proofs.Follow.{faultless_none, faultless_cons, faultless_head, faultless_tail}
 use Rattle.sd_config.specs.declared.config.Config.{Config}
 use Rattle.sd_config.specs.declared.config.Machine.{Machine}
@@ -16,82 +13,30 @@ use Rattle.sd_config.specs.declared.config.BootFile.{BootFile}
 use Rattle.sd_config.specs.declared.config.RootItem.{RootItem}
 use Rattle.sd_config.specs.declared.config.RootItem.TheVariants.{File, Symlink}
 use Rattle.sd_config.specs.declared.config.SwapLine.{SwapLine}
-use Rattle.sd_outside.specs.declared.packet.Addr.{Addr}
-use Rattle.sd_config.specs.declared.events.Fate.{Fate}
-use Rattle.sd_config.specs.declared.events.Stranger.{Stranger}
-use Rattle.sd_config.specs.Events.{body_limit, IsElsewhere}
 use Rattle.sd_config.specs.declared.command.Command.{Command}
 use Rattle.sd_config.specs.declared.command.Command.TheVariants as commands
 use Rattle.sd_config.specs.Commands.{command_limit}
-use Rattle.sd_config.specs.Config.{IsName, boot_file_limit, IsPath, IsTarget, AreApart, item_path, item_size}
+use Rattle.sd_config.specs.Config.{IsName, boot_file_limit, IsPath, IsTarget, AreApart, item_path}
 use Rattle.sd_outside.specs.declared.packet.Mac.{Mac}
-use Rattle.sd_script.specs.declared.draft.Section.{Section}
 use Rattle.sd_script.specs.declared.draft.Section.TheVariants as sections
 use Rattle.sd_script.specs.declared.draft.Draft.{Draft}
 use Rattle.sd_script.specs.declared.draft.Word.{Word}
 use Rattle.sd_script.specs.declared.draft.Word.TheVariants as words
-use Rattle.sd_text.specs.Texts.{Text, fields, IsNumber, IsMac, IsIp, IsAddr}
+use Rattle.sd_text.specs.Texts.{Text, fields, IsNumber, IsMac, IsIp}
 use Rattle.sd_text.specs.Runs.{IsRunsWithin}
 use Rattle.sd_text.proofs.Exits.{firsts, others}
 use Rattle.sd_text.proofs.NumberLemmas.{one_number}
 use Rattle.sd_text.proofs.ItemLemmas.{one_runs}
-use Rattle.sd_text.proofs.PacketLemmas.{one_addr}
-use Rattle.sd_script.specs.Limits.{all_files_limit, host_limit, params_limit, fate_limit, stranger_limit}
-use Rattle.sd_script.specs.Lines.{with_config, with_host, with_params, with_boot_file, with_item, with_fate, with_stranger, with_command, MayBeEvent, MayBeCommand, LifeLine, TriesLine, WaitLine, PagesLine, IsMachine, Differ, ServerLine, ClientLine, ArchLine, MayAddHost, HostLine, spaced, IsRest, ParamsLine, HasRoom, MayAddBootFile, TftpLine, MayBeRoot, RootLine, MayAddItem, FileLine, LinkLine, KernelLine, MayBeSwap, SwapFileLine, IsDelays, MayAddFate, FateLine, StrangerLine, AddsCommand, AddrLine, BootLine, WaitCommandLine}
-use Rattle.sd_script.specs.Grammar.{IsWhole, spelling, WordLine, IsSkipped, IsWordLine, IsLine}
-use Rattle.sd_text.proofs.Deciding.{Settled, Way, both, either, not_so, as_well, le_settled, lt_settled, text_settled, all_settled, some_settled, none_settled, empty_settled, number_way, mac_way, run_way, ip_way, addr_way}
+use Rattle.sd_script.specs.Limits.{all_files_limit, host_limit, params_limit}
+use Rattle.sd_script.specs.Lines.{with_config, with_host, with_params, with_boot_file, with_item, with_command, MayBeCommand, LifeLine, TriesLine, WaitLine, PagesLine, IsMachine, Differ, ServerLine, ClientLine, ArchLine, MayAddHost, HostLine, spaced, IsRest, ParamsLine, HasRoom, MayAddBootFile, TftpLine, MayBeRoot, RootLine, MayAddItem, FileLine, LinkLine, KernelLine, MayBeSwap, SwapFileLine, AddsCommand, AddrLine, BootLine, WaitCommandLine}
+use Rattle.sd_script.specs.Grammar.{spelling, WordLine, IsSkipped, IsWordLine, IsLine}
+use Rattle.sd_text.proofs.Deciding.{Settled, Way, both, not_so, as_well, le_settled, lt_settled, text_settled, all_settled, some_settled, none_settled, empty_settled, number_way, mac_way, run_way, ip_way}
 use Rattle.sd_text.proofs.MacLemmas.{one_ip}
-use Rattle.sd_script.proofs.Deciding.{name_settled, target_settled, path_settled, apart_settled, numbers_way}
+use Rattle.sd_script.proofs.Deciding.{name_settled, target_settled, path_settled, apart_settled}
 use Rattle.sd_script.proofs.MachineLemmas.{one_machine}
 use Rattle.sd_script.proofs.OneLine.{one_word}
-
--- ---- sections
-
-rank : Section → ℕ
-rank sections.Life = 0
-rank sections.Tries = 1
-rank sections.Wait = 2
-rank sections.Pages = 3
-rank sections.Server = 4
-rank sections.Client = 5
-rank sections.Config = 6
-rank sections.Events = 7
-rank sections.Commands = 8
-
-section_at : ℕ → Section
-section_at zero = sections.Life
-section_at (suc zero) = sections.Tries
-section_at (suc (suc zero)) = sections.Wait
-section_at (suc (suc (suc zero))) = sections.Pages
-section_at (suc (suc (suc (suc zero)))) = sections.Server
-section_at (suc (suc (suc (suc (suc zero))))) = sections.Client
-section_at (suc (suc (suc (suc (suc (suc zero)))))) = sections.Config
-section_at (suc (suc (suc (suc (suc (suc (suc zero))))))) = sections.Events
-section_at (suc (suc (suc (suc (suc (suc (suc (suc n)))))))) = sections.Commands
-
-rank_back : (s : Section) → section_at (rank s) ≡ s
-unfolding rank section_at
-rank_back sections.Life = refl
-rank_back sections.Tries = refl
-rank_back sections.Wait = refl
-rank_back sections.Pages = refl
-rank_back sections.Server = refl
-rank_back sections.Client = refl
-rank_back sections.Config = refl
-rank_back sections.Events = refl
-rank_back sections.Commands = refl
-
-section_settled : (s t : Section) → Settled (s ≡ t)
-section_settled s t = as_well (λ e. sym (rank_back s) ∙ ap section_at e ∙ rank_back t) (λ e. ap rank e) (cases_eq (rank s) (rank t))
-
-event_settled : (s : Section) → Settled (MayBeEvent s)
-event_settled s = either (section_settled s sections.Config) (section_settled s sections.Events)
-
-command_settled : (s : Section) → Settled (MayBeCommand s)
-command_settled s = either (section_settled s sections.Config) (either (section_settled s sections.Events) (section_settled s sections.Commands))
-
-pub whole_settled : (s : Section) → Settled (IsWhole s)
-whole_settled s = command_settled s
+use Rattle.sd_script.proofs.Sections.{section_settled, command_settled}
+use Rattle.sd_script.proofs.EventWays.{fate_way, stranger_way, fault_way}
 
 -- ---- lines of one number
 
@@ -338,72 +283,7 @@ swap_way old (path ∷ number ∷ []) = of (number_way 8192 33554432 number) (bo
     of (inr none) h = inr (λ new k. none k.size (subst (λ (t : Text). IsNumber 8192 33554432 t k.size) (sym (firsts (others k.text))) k.is_size))
     of (inl n) (inr other) = inr (λ new k. let same = sym (firsts k.text) in other (subst IsPath same k.is_path, (k.place, subst (λ (t : Text). MayBeSwap old.config t) same k.may)))
 
--- ---- events and commands
-
-delays_way : (life : ℕ) (args : List Text) → Way (IsDelays life args)
-delays_way life args = of (both (le_settled 1 (length args)) (le_settled (length args) 8)) (numbers_way 1 (life - 1) args) (word_settled args)
-  where
-    word_settled : (args : List Text) → Settled (args ≡ codes "none" ∷ [])
-    word_settled [] = inr (λ h. absurd (omega (arith, ap length h)))
-    word_settled (f ∷ []) = as_well (λ e. ap (λ (t : Text). t ∷ []) e) (λ e. firsts e) (text_settled f (codes "none"))
-    word_settled (f ∷ g ∷ more) = inr (λ h. absurd (omega (arith, ap length h)))
-
-    of : Settled ((1 ≤ length args) × (length args ≤ 8)) → Way (λ (ns : List ℕ). AllZip (IsNumber 1 (life - 1)) args ns) → Settled (args ≡ codes "none" ∷ []) → Way (IsDelays life args)
-    of few ns (inl e) = inl ([], inl (e, refl))
-    of (inl few) (inl ns) (inr other) = inl (ns.0, inr (few.0, few.1, ns.1))
-    of (inr many) ns (inr other) = inr (λ ds h. elim h [ inl none ↦ other none.0 | inr some ↦ many (some.0, some.1) ])
-    of (inl few) (inr ns) (inr other) = inr (λ ds h. elim h [ inl none ↦ other none.0 | inr some ↦ ns ds some.2 ])
-
-may_add_fate : (fates : List Fate) (id : ℕ) → Settled (MayAddFate fates id)
-may_add_fate fates id = both (lt_settled (length fates) fate_limit) (all_settled (λ (other : Fate). other.id ≢ id) (λ other. not_so (cases_eq other.id id)) fates)
-
-fate_way : (old : Draft) (args : List Text) → Way (FateLine old args)
-fate_way old [] = inr (λ new h. absurd (omega (arith, ap length h.text)))
-fate_way old (id ∷ delays) = of (number_way 0 4294967295 id) (delays_way old.config.life delays) (event_settled old.section)
-  where
-    by_rule : (n : ℕ) (ds : List ℕ) → IsNumber 0 4294967295 id n → IsDelays old.config.life delays ds → MayBeEvent old.section → Settled (MayAddFate old.fates n) → Way (FateLine old (id ∷ delays))
-    by_rule n ds is are at (inl may) = let fate : Fate = record { id = n; delays = ds } in
-        inl (with_fate old fate, record { fate = fate; id = id; delays = delays; text = refl; place = at; is_id = is; are_delays = are; may = may; means = refl })
-    by_rule n ds is are at (inr other) = inr (λ new h. other (subst (λ (m : ℕ). MayAddFate old.fates m) (one_number 0 4294967295 id h.fate.id n (subst (λ (t : Text). IsNumber 0 4294967295 t h.fate.id) (sym (firsts h.text)) h.is_id) is) h.may))
-
-    of : Way (IsNumber 0 4294967295 id) → Way (IsDelays old.config.life delays) → Settled (MayBeEvent old.section) → Way (FateLine old (id ∷ delays))
-    of (inl n) (inl ds) (inl at) = by_rule n.0 ds.0 n.1 ds.1 at (may_add_fate old.fates n.0)
-    of (inr none) ds at = inr (λ new h. none h.fate.id (subst (λ (t : Text). IsNumber 0 4294967295 t h.fate.id) (sym (firsts h.text)) h.is_id))
-    of (inl n) (inr none) at = inr (λ new h. none h.fate.delays (subst (λ (l : List Text). IsDelays old.config.life l h.fate.delays) (sym (others h.text)) h.are_delays))
-    of (inl n) (inl ds) (inr other) = inr (λ new h. other h.place)
-
-elsewhere_settled : (client server : ℕ) (src : Addr) → Settled (IsElsewhere client server src)
-elsewhere_settled client server src = of (both (not_so (cases_eq src.ip client)) (both (not_so (cases_eq src.ip server)) (not_so (cases_eq src.port 111))))
-  where
-    of : Settled ((src.ip ≢ client) × ((src.ip ≢ server) × (src.port ≢ 111))) → Settled (IsElsewhere client server src)
-    of (inl h) = inl (record { not_client = h.0; not_server = h.1.0; not_portmapper = h.1.1 })
-    of (inr other) = inr (λ h. other (h.not_client, (h.not_server, h.not_portmapper)))
-
-stranger_way : (old : Draft) (args : List Text) → Way (StrangerLine old args)
-stranger_way old [] = inr (λ new h. absurd (omega (arith, ap length h.text)))
-stranger_way old (a ∷ []) = inr (λ new h. absurd (omega (arith, ap length h.text)))
-stranger_way old (a ∷ b ∷ []) = inr (λ new h. absurd (omega (arith, ap length h.text)))
-stranger_way old (a ∷ b ∷ c ∷ []) = inr (λ new h. absurd (omega (arith, ap length h.text)))
-stranger_way old (a ∷ b ∷ c ∷ d ∷ e ∷ more) = inr (λ new h. absurd (omega (arith, ap length h.text)))
-stranger_way old (tick ∷ from ∷ to ∷ body ∷ []) = of (number_way 1 4294967295 tick) (addr_way from) (addr_way to) (run_way body_limit body) (both (event_settled old.section) (lt_settled (length old.strangers) stranger_limit))
-  where
-    client : ℕ
-    client = old.config.client.ip
-
-    server : ℕ
-    server = old.config.server.ip
-
-    by_rule : (s : Stranger) → IsNumber 1 4294967295 tick s.tick → IsAddr from s.src → IsAddr to s.dst → IsRunsWithin body_limit body s.body → MayBeEvent old.section × (length old.strangers < stranger_limit) → Settled (IsElsewhere client server s.src) → Way (StrangerLine old (tick ∷ from ∷ to ∷ body ∷ []))
-    by_rule s t f g b at (inl away) = inl (with_stranger old s, record { stranger = s; tick = tick; from = from; to = to; body = body; text = refl; place = at.0; is_tick = t; is_src = f; is_dst = g; is_body = b; elsewhere = away; few = at.1; means = refl })
-    by_rule s t f g b at (inr near) = inr (λ new h. near (subst (λ (a : Addr). IsElsewhere client server a) (one_addr from h.stranger.src s.src (subst (λ (u : Text). IsAddr u h.stranger.src) (sym (firsts (others h.text))) h.is_src) f) h.elsewhere))
-
-    of : Way (IsNumber 1 4294967295 tick) → Way (IsAddr from) → Way (IsAddr to) → Way (IsRunsWithin body_limit body) → Settled (MayBeEvent old.section × (length old.strangers < stranger_limit)) → Way (StrangerLine old (tick ∷ from ∷ to ∷ body ∷ []))
-    of (inl t) (inl f) (inl g) (inl b) (inl at) = by_rule (record { tick = t.0; src = f.0; dst = g.0; body = b.0 }) t.1 f.1 g.1 b.1 at (elsewhere_settled client server f.0)
-    of (inr none) f g b at = inr (λ new h. none h.stranger.tick (subst (λ (u : Text). IsNumber 1 4294967295 u h.stranger.tick) (sym (firsts h.text)) h.is_tick))
-    of (inl t) (inr none) g b at = inr (λ new h. none h.stranger.src (subst (λ (u : Text). IsAddr u h.stranger.src) (sym (firsts (others h.text))) h.is_src))
-    of (inl t) (inl f) (inr none) b at = inr (λ new h. none h.stranger.dst (subst (λ (u : Text). IsAddr u h.stranger.dst) (sym (firsts (others (others h.text)))) h.is_dst))
-    of (inl t) (inl f) (inl g) (inr none) at = inr (λ new h. none h.stranger.body (subst (λ (u : Text). IsRunsWithin body_limit u h.stranger.body) (sym (firsts (others (others (others h.text))))) h.is_body))
-    of (inl t) (inl f) (inl g) (inl b) (inr other) = inr (λ new h. other (h.place, h.few))
+-- ---- commands
 
 adds_way : (old : Draft) (command : Command) → Way (AddsCommand old command)
 adds_way old command = of (both (command_settled old.section) (lt_settled (length old.commands) command_limit))
@@ -464,6 +344,7 @@ word_line_way words.Kernel old args = kernel_way old args
 word_line_way words.Swap old args = swap_way old args
 word_line_way words.Fate old args = fate_way old args
 word_line_way words.Stranger old args = stranger_way old args
+word_line_way words.Fault old args = fault_way old args
 word_line_way words.Addr old args = addr_line_way old args
 word_line_way words.Boot old args = boot_way old args
 
@@ -474,7 +355,7 @@ IsAmong word [] = ⊥
 IsAmong word (one ∷ more) = (word ≡ one) ⊎ IsAmong word more
 
 abbrev all_words : List Word
-all_words = words.Life ∷ words.Tries ∷ words.Wait ∷ words.Pages ∷ words.Server ∷ words.Client ∷ words.Arch ∷ words.Host ∷ words.Params ∷ words.Tftp ∷ words.Root ∷ words.File ∷ words.Link ∷ words.Kernel ∷ words.Swap ∷ words.Fate ∷ words.Stranger ∷ words.Addr ∷ words.Boot ∷ []
+all_words = words.Life ∷ words.Tries ∷ words.Wait ∷ words.Pages ∷ words.Server ∷ words.Client ∷ words.Arch ∷ words.Host ∷ words.Params ∷ words.Tftp ∷ words.Root ∷ words.File ∷ words.Link ∷ words.Kernel ∷ words.Swap ∷ words.Fate ∷ words.Stranger ∷ words.Fault ∷ words.Addr ∷ words.Boot ∷ []
 
 among_all : (word : Word) → IsAmong word all_words
 among_all words.Life = inl refl
@@ -494,8 +375,9 @@ among_all words.Kernel = inr (inr (inr (inr (inr (inr (inr (inr (inr (inr (inr (
 among_all words.Swap = inr (inr (inr (inr (inr (inr (inr (inr (inr (inr (inr (inr (inr (inr (inl refl))))))))))))))
 among_all words.Fate = inr (inr (inr (inr (inr (inr (inr (inr (inr (inr (inr (inr (inr (inr (inr (inl refl)))))))))))))))
 among_all words.Stranger = inr (inr (inr (inr (inr (inr (inr (inr (inr (inr (inr (inr (inr (inr (inr (inr (inl refl))))))))))))))))
-among_all words.Addr = inr (inr (inr (inr (inr (inr (inr (inr (inr (inr (inr (inr (inr (inr (inr (inr (inr (inl refl)))))))))))))))))
-among_all words.Boot = inr (inr (inr (inr (inr (inr (inr (inr (inr (inr (inr (inr (inr (inr (inr (inr (inr (inr (inl refl))))))))))))))))))
+among_all words.Fault = inr (inr (inr (inr (inr (inr (inr (inr (inr (inr (inr (inr (inr (inr (inr (inr (inr (inl refl)))))))))))))))))
+among_all words.Addr = inr (inr (inr (inr (inr (inr (inr (inr (inr (inr (inr (inr (inr (inr (inr (inr (inr (inr (inl refl))))))))))))))))))
+among_all words.Boot = inr (inr (inr (inr (inr (inr (inr (inr (inr (inr (inr (inr (inr (inr (inr (inr (inr (inr (inr (inl refl)))))))))))))))))))
 
 search_word : (t : Text) (these : List Word) → ((word : Word) × (t ≡ spelling word)) ⊎ ((word : Word) → IsAmong word these → t ≡ spelling word → ⊥)
 search_word t [] = inr (λ word h e. h)

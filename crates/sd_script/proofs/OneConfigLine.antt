@@ -1,6 +1,5 @@
 -- A configuration line leads to one draft.
 use Rattle.std.proofs.Common.{◌≡◌, ℕ, ◌+◌, List, ◌++◌, ap, sym, ◌∙◌, subst}
-use Rattle.sd_bootparams.specs.declared.draft.Draft as file
 use Rattle.sd_bootparams.specs.File.{adding}
 use Rattle.sd_bootparams.specs.LineByLine.{fed, line_parts, after_line}
 use Rattle.sd_text.specs.Texts.{Text, IsIp}

@@ -8,10 +8,11 @@ use Rattle.sd_script.specs.declared.draft.Word.{Word}
 use Rattle.sd_script.specs.declared.draft.Word.TheVariants as words
 use Rattle.sd_config.specs.declared.command.Command.{Command}
 use Rattle.sd_config.specs.declared.command.Command.TheVariants as commands
-use Rattle.sd_outside.specs.declared.packet.Addr.{Addr}
+use Rattle.sd_config.specs.declared.events.PlannedFault.{PlannedFault}
+use Rattle.sd_config.specs.declared.events.PlannedFault.TheVariants as planned
 use Rattle.sd_text.specs.Texts.{Text, fields, IsNumber, IsIp, IsAddr}
 use Rattle.sd_text.specs.Runs.{IsRuns}
-use Rattle.sd_script.specs.Lines.{IsMachine, LifeLine, TriesLine, WaitLine, PagesLine, ServerLine, ClientLine, IsDelays, FateLine, StrangerLine, AddsCommand, WaitCommandLine}
+use Rattle.sd_script.specs.Lines.{IsMachine, LifeLine, TriesLine, WaitLine, PagesLine, ServerLine, ClientLine, IsDelays, FateLine, StrangerLine, FaultLine, fault_word, fault_number, AddsCommand, WaitCommandLine}
 use Rattle.sd_script.specs.Grammar.{spelling, WordLine, IsSkipped, IsWordLine, IsLine}
 use Rattle.sd_text.proofs.Exits.{firsts, others}
 use Rattle.sd_text.proofs.NumberLemmas.{one_number, same_number}
@@ -107,6 +108,19 @@ stranger_one old args a b x y =
     let same : x.stranger ≡ y.stranger = λ k. record { tick = tick k; src = src k; dst = dst k; body = body k } in
     x.means ∙ rw same (sym y.means)
 
+same_fault : (a b : PlannedFault) → fault_word a ≡ fault_word b → fault_number a ≡ fault_number b → a ≡ b
+same_fault (planned.Send m) (planned.Send n) e h = ap planned.Send h
+same_fault (planned.Send m) (planned.Recv n) e h = absurd (omega (arith, ap (λ (t : Text). get_or t 0 0) e))
+same_fault (planned.Recv m) (planned.Send n) e h = absurd (omega (arith, ap (λ (t : Text). get_or t 0 0) e))
+same_fault (planned.Recv m) (planned.Recv n) e h = ap planned.Recv h
+
+fault_one : (old : Draft) (args : List Text) (a b : Draft) → FaultLine old args a → FaultLine old args b → a ≡ b
+fault_one old args a b x y =
+    let e = sym x.text ∙ y.text in
+    let number = same_number 0 4294967295 (fault_number x.fault) (fault_number y.fault) (firsts (others e)) x.is_number y.is_number in
+    let same : x.fault ≡ y.fault = same_fault x.fault y.fault (firsts e) number in
+    x.means ∙ rw same (sym y.means)
+
 adds_one : (old : Draft) (c d : Command) (a b : Draft) → c ≡ d → AddsCommand old c a → AddsCommand old d b → a ≡ b
 adds_one old c d a b same x y = x.means ∙ rw same (sym y.means)
 
@@ -137,6 +151,7 @@ word_one words.Kernel old args a b x y = kernel_one old args a b x y
 word_one words.Swap old args a b x y = swap_one old args a b x y
 word_one words.Fate old args a b x y = fate_one old args a b x y
 word_one words.Stranger old args a b x y = stranger_one old args a b x y
+word_one words.Fault old args a b x y = fault_one old args a b x y
 word_one words.Addr old args a b x y = adds_one old commands.Addr commands.Addr a b refl x.adds y.adds
 word_one words.Boot old args a b x y = adds_one old commands.Boot commands.Boot a b refl x.adds y.adds
 
@@ -149,7 +164,7 @@ word_at text =
     (cond (bytes_eq text (codes "arch")) words.Arch (cond (bytes_eq text (codes "host")) words.Host (cond (bytes_eq text (codes "params")) words.Params (cond (bytes_eq text (codes "tftp")) words.Tftp (cond (bytes_eq text (codes "root")) words.Root
     (cond (bytes_eq text (codes "file")) words.File (cond (bytes_eq text (codes "link")) words.Link (cond (bytes_eq text (codes "kernel")) words.Kernel
     (cond (bytes_eq text (codes "swap")) words.Swap (cond (bytes_eq text (codes "fate")) words.Fate
-    (cond (bytes_eq text (codes "stranger")) words.Stranger (cond (bytes_eq text (codes "addr")) words.Addr words.Boot)))))))))))))))))
+    (cond (bytes_eq text (codes "stranger")) words.Stranger (cond (bytes_eq text (codes "fault")) words.Fault (cond (bytes_eq text (codes "addr")) words.Addr words.Boot))))))))))))))))))
 
 word_back : (word : Word) → word_at (spelling word) ≡ word
 word_back words.Life = refl
@@ -169,6 +184,7 @@ word_back words.Kernel = refl
 word_back words.Swap = refl
 word_back words.Fate = refl
 word_back words.Stranger = refl
+word_back words.Fault = refl
 word_back words.Addr = refl
 word_back words.Boot = refl
 
@@ -194,6 +210,7 @@ word_starts words.Kernel = (omega arith, λ e. omega (arith, e))
 word_starts words.Swap = (omega arith, λ e. omega (arith, e))
 word_starts words.Fate = (omega arith, λ e. omega (arith, e))
 word_starts words.Stranger = (omega arith, λ e. omega (arith, e))
+word_starts words.Fault = (omega arith, λ e. omega (arith, e))
 word_starts words.Addr = (omega arith, λ e. omega (arith, e))
 word_starts words.Boot = (omega arith, λ e. omega (arith, e))
 

@@ -6,7 +6,8 @@ use Rattle.sd_script.specs.declared.draft.Draft.{Draft}
 use Rattle.sd_script.specs.declared.script.Script.{Script}
 use Rattle.sd_text.specs.Texts.{Text}
 use Rattle.sd_script.specs.Limits.{input_limit}
-use Rattle.sd_script.specs.Grammar.{lines, without_feed, IsLine, Leads, blank, script_of, IsWhole, Says, IsScript, IsRefusedLine, EndsEarly, IsFirstOutside}
+use Rattle.sd_outside.specs.Lines.{lines, without_feed}
+use Rattle.sd_script.specs.Grammar.{IsLine, Leads, blank, script_of, IsWhole, Says, IsScript, IsRefusedLine, EndsEarly, IsFirstOutside}
 use Rattle.sd_script.proofs.OneLine.{line_one}
 use Rattle.sd_text.proofs.Exits.{firsts, others}
 

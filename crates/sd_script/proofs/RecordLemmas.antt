@@ -3,13 +3,13 @@ use Rattle.std.proofs.Common.{◌≡◌, ℕ, [], ◌∷◌, ◌++◌, refl, sym
 use Rattle.sd_outside.specs.declared.packet.Packet.{Packet}
 use Rattle.sd_text.specs.Texts.{Text}
 use Rattle.sd_text.specs.Packets.{packet_text}
-use Rattle.sd_text.specs.Writing.{AppendsFront}
+use Rattle.sd_text.specs.Writing.{AppendsPrefix}
 use Rattle.sd_link.specs.Printing.{entry_text}
 use Rattle.sd_link.specs.Steps as steps
 use Rattle.sd_script.specs.PacketWriting.{head_of_sent}
 
 -- a prefix of what follows a head, behind the head, where more follows
-pub front_within : (old mid new head rest more whole : Text) → mid ≡ old ++ head → whole ≡ head ++ (rest ++ more) → AppendsFront mid new rest → AppendsFront old new whole
+pub front_within : (old mid new head rest more whole : Text) → mid ≡ old ++ head → whole ≡ head ++ (rest ++ more) → AppendsPrefix mid new rest → AppendsPrefix old new whole
 front_within old mid new head rest more whole e is a = record {
   front = head ++ a.front;
   rest = a.rest ++ more;
@@ -18,7 +18,7 @@ front_within old mid new head rest more whole e is a = record {
 }
 
 -- all but the last part of the whole is written
-pub front_before : (old mid last new head rest more whole : Text) → mid ≡ old ++ head → whole ≡ head ++ (rest ++ more) → last ≡ mid ++ rest → new ≡ last → AppendsFront old new whole
+pub front_before : (old mid last new head rest more whole : Text) → mid ≡ old ++ head → whole ≡ head ++ (rest ++ more) → last ≡ mid ++ rest → new ≡ last → AppendsPrefix old new whole
 front_before old mid last new head rest more whole e is written same = record {
   front = head ++ rest;
   rest = more;

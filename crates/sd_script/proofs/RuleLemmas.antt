@@ -9,11 +9,12 @@ use Rattle.sd_config.specs.declared.config.RootItem.{RootItem}
 use Rattle.sd_config.specs.declared.config.RootItem.TheVariants as items
 use Rattle.sd_config.specs.declared.config.SwapLine.{SwapLine}
 use Rattle.sd_config.specs.declared.events.Fate.{Fate}
-use Rattle.sd_config.specs.declared.events.Stranger.{Stranger}
+use Rattle.sd_config.specs.declared.events.PlannedFault.{PlannedFault}
+use Rattle.sd_config.specs.declared.events.PlannedFault.TheVariants as planned
 use Rattle.sd_text.specs.Texts.{Text, IsNumber}
 use Rattle.sd_config.specs.Config as rules
 use Rattle.sd_config.specs.Config.{IsConfig, IsWithin, bytes_of}
-use Rattle.sd_config.specs.Events.{IsFate, IsStranger}
+use Rattle.sd_config.specs.Events.{IsFate, IsStranger, IsPlanned}
 use Rattle.sd_config.specs.declared.command.Command.{Command}
 use Rattle.sd_config.specs.declared.command.Command.TheVariants as commands
 use Rattle.sd_script.specs.declared.script.Script.{Script}
@@ -23,8 +24,9 @@ use Rattle.sd_script.specs.declared.draft.Draft.{Draft}
 use Rattle.sd_script.specs.declared.draft.Word.{Word}
 use Rattle.sd_script.specs.declared.draft.Word.TheVariants as words
 use Rattle.sd_config.specs.Commands.{command_limit}
-use Rattle.sd_script.specs.Lines.{IsMachine, LifeLine, TriesLine, WaitLine, PagesLine, ServerLine, ClientLine, ArchLine, HostLine, ParamsLine, TftpLine, RootLine, FileLine, LinkLine, KernelLine, SwapFileLine, HasRoom, MayAddHost, with_host, with_params, MayAddBootFile, MayAddItem, MayBeEvent, MayBeCommand, IsDelays, FateLine, StrangerLine, AddsCommand, Differ, with_config, with_boot_file, with_item, with_fate, with_stranger, with_command}
-use Rattle.sd_script.specs.Grammar.{spelling, WordLine, IsLine, Leads, without_feed, blank, kernel_or_usual, script_of, IsScript}
+use Rattle.sd_script.specs.Lines.{IsMachine, LifeLine, TriesLine, WaitLine, PagesLine, ServerLine, ClientLine, ArchLine, HostLine, ParamsLine, TftpLine, RootLine, FileLine, LinkLine, KernelLine, SwapFileLine, HasRoom, MayAddHost, with_host, with_params, MayAddBootFile, MayAddItem, MayBeEvent, MayBeCommand, IsDelays, FateLine, StrangerLine, FaultLine, fault_number, AddsCommand, Differ, with_config, with_boot_file, with_item, with_fate, with_stranger, with_fault, with_command}
+use Rattle.sd_outside.specs.Lines.{without_feed}
+use Rattle.sd_script.specs.Grammar.{spelling, WordLine, IsLine, Leads, blank, kernel_or_usual, script_of, IsScript}
 use Rattle.sd_script.specs.Rules.{KeepsRules}
 use Rattle.sd_config.specs.Commands.{IsCommand}
 use Rattle.sd_script.proofs.ParamsLemmas.{OneLine, parts_one, rest_one_line, before_one, no_hosts_are, one_more_host, ParamsSoFar, no_params, one_more_line, params_are}
@@ -68,6 +70,7 @@ record KeepsSoFar (d : Draft) : Type 0 where
   early : stage d.section < 6 → (d.fates ≡ []) × (d.strangers ≡ [])
   fates : All (IsFate d.config.life) d.fates
   strangers : All (IsStranger d.config.client.ip d.config.server.ip) d.strangers
+  faults : All IsPlanned d.faults
   commands : All IsCommand d.commands
   few : length d.commands ≤ command_limit
 
@@ -96,6 +99,7 @@ heads old section c same_hosts same_params k early h lines sum = record {
   early = λ _. k.early early;
   fates = none (IsFate c.life) old.fates (k.early early).0;
   strangers = none (IsStranger c.client.ip c.server.ip) old.strangers (k.early early).1;
+  faults = k.faults;
   commands = k.commands;
   few = k.few;
 }
@@ -208,6 +212,7 @@ lined old c k h fates strangers hosts params lines sum = record {
   early = λ h. absurd (omega (arith, h));
   fates = fates;
   strangers = strangers;
+  faults = k.faults;
   commands = k.commands;
   few = k.few;
 }
@@ -226,6 +231,7 @@ host_kept old args new l k =
       early = k.early;
       fates = k.fates;
       strangers = k.strangers;
+      faults = k.faults;
       commands = k.commands;
       few = k.few;
     } in
@@ -243,6 +249,7 @@ params_kept old args new one l k =
       early = k.early;
       fates = k.fates;
       strangers = k.strangers;
+      faults = k.faults;
       commands = k.commands;
       few = k.few;
     } in
@@ -288,6 +295,7 @@ boot_file_kept old file place may is room k =
       early = k.early;
       fates = k.fates;
       strangers = k.strangers;
+      faults = k.faults;
       commands = k.commands;
       few = k.few;
     }
@@ -312,6 +320,7 @@ item_kept old item place may is room k =
       early = k.early;
       fates = k.fates;
       strangers = k.strangers;
+      faults = k.faults;
       commands = k.commands;
       few = k.few;
     }
@@ -364,6 +373,7 @@ fate_kept old args new l k =
       early = λ h. absurd (omega (arith, h));
       fates = All-append P old.fates (l.fate ∷ []) k.fates (All-cons P l.fate [] is (All-nil P));
       strangers = k.strangers;
+      faults = k.faults;
       commands = k.commands;
       few = k.few;
     } in
@@ -384,6 +394,31 @@ stranger_kept old args new l k =
       early = λ h. absurd (omega (arith, h));
       fates = k.fates;
       strangers = All-append P old.strangers (l.stranger ∷ []) k.strangers (All-cons P l.stranger [] is (All-nil P));
+      faults = k.faults;
+      commands = k.commands;
+      few = k.few;
+    } in
+    subst KeepsSoFar (sym l.means) kept
+
+planned_ok : (fault : PlannedFault) → fault_number fault ≤ 4294967295 → IsPlanned fault
+planned_ok (planned.Send id) h = omega (arith, h)
+planned_ok (planned.Recv call) h = omega (arith, h)
+
+fault_kept : (old : Draft) (args : List Text) (new : Draft) → FaultLine old args new → KeepsSoFar old → KeepsSoFar new
+fault_kept old args new l k =
+    let at = whole_at_event old.section l.place in
+    let is = planned_ok l.fault l.is_number.high in
+    let kept : KeepsSoFar (with_fault old l.fault) = record {
+      headed = headed_on old at k;
+      hosts = k.hosts;
+      no_hosts = λ h. absurd (omega (arith, h));
+      params = k.params;
+      lines = k.lines;
+      sum = k.sum;
+      early = λ h. absurd (omega (arith, h));
+      fates = k.fates;
+      strangers = k.strangers;
+      faults = All-append IsPlanned old.faults (l.fault ∷ []) k.faults (All-cons IsPlanned l.fault [] is (All-nil IsPlanned));
       commands = k.commands;
       few = k.few;
     } in
@@ -402,6 +437,7 @@ adds_kept old command new is l k =
       early = λ h. absurd (omega (arith, h));
       fates = k.fates;
       strangers = k.strangers;
+      faults = k.faults;
       commands = All-append IsCommand old.commands (command ∷ []) k.commands (All-cons IsCommand command [] is (All-nil IsCommand));
       few = omega (arith, l.count, length-append old.commands (command ∷ []));
     } in
@@ -425,6 +461,7 @@ word_kept words.Kernel old args new one l k = kernel_kept old args new l k
 word_kept words.Swap old args new one l k = swap_kept old args new l k
 word_kept words.Fate old args new one l k = fate_kept old args new l k
 word_kept words.Stranger old args new one l k = stranger_kept old args new l k
+word_kept words.Fault old args new one l k = fault_kept old args new l k
 word_kept words.Addr old args new one l k = adds_kept old commands.Addr new tt l.adds k
 word_kept words.Boot old args new one l k = adds_kept old commands.Boot new tt l.adds k
 
@@ -461,6 +498,7 @@ blank_kept = record {
   early = λ _. (refl, refl);
   fates = All-nil (IsFate 0);
   strangers = All-nil (IsStranger 0 0);
+  faults = All-nil IsPlanned;
   commands = All-nil IsCommand;
   few = omega arith;
 }
@@ -499,7 +537,7 @@ keeps_rules text script s =
     let at = whole_at_command s.draft.section s.whole in
     let kept : KeepsRules (script_of s.draft) = record {
       config = config_kept s.draft.config (headed_on s.draft at k) k.hosts (params_are s.draft.config.params s.draft.params_lines s.draft.params k.params) k.lines;
-      events = record { fates = k.fates; strangers = k.strangers };
+      events = record { fates = k.fates; strangers = k.strangers; faults = k.faults };
       commands = k.commands;
       few = k.few;
     } in

@@ -2,7 +2,7 @@
 use Rattle.std.specs.Prelude.{◌∷◌, ◌++◌, [], codes}
 use Rattle.std.specs.Fmt.{decimal}
 use Rattle.sd_config.specs.declared.stage.Stage.{Stage}
-use Rattle.sd_config.specs.declared.stage.Stage.TheVariants.{Rarp, Tftp, Whoami, Getfile, Getport, Mnt, Wait}
+use Rattle.sd_config.specs.declared.stage.Stage.TheVariants.{Rarp, Tftp, Whoami, Getfile, Getport, Mnt, Lookup, Readlink, Read, Getattr, Wait}
 use Rattle.sd_text.specs.Texts.{Text, ip_text}
 use Rattle.sd_text.specs.Runs.{runs_text}
 use Rattle.sd_config.specs.declared.told.Told.{Told}
@@ -16,6 +16,10 @@ stage_text Whoami = codes "whoami"
 stage_text Getfile = codes "getfile"
 stage_text Getport = codes "getport"
 stage_text Mnt = codes "mnt"
+stage_text Lookup = codes "lookup"
+stage_text Readlink = codes "readlink"
+stage_text Read = codes "read"
+stage_text Getattr = codes "getattr"
 stage_text Wait = codes "wait"
 
 -- what stands before the line feed

@@ -1,6 +1,7 @@
 -- Which bytes are a script, and which line is the first outside the grammar.
 use Rattle.std.specs.Prelude.{◌≡◌, ℕ, ◌+◌, ◌<◌, ◌≤◌, ◌==◌, List, [], ◌∷◌, ◌++◌, length, codes, None, ◌⊎◌, if◌then◌else◌}
-use Rattle.std.specs.List.{onto_first, before_first, concat}
+use Rattle.std.specs.List.{concat}
+use Rattle.sd_outside.specs.Lines.{lines, without_feed}
 use Rattle.sd_bootparams.specs.LineByLine as file
 use Rattle.sd_config.specs.declared.config.Machine.{Machine}
 use Rattle.sd_config.specs.declared.config.Config.{Config}
@@ -14,7 +15,7 @@ use Rattle.sd_script.specs.declared.error.ScriptError.{ScriptError}
 use Rattle.sd_script.specs.declared.error.ScriptError.TheVariants as errors
 use Rattle.sd_text.specs.Texts.{Text, fields}
 use Rattle.sd_script.specs.Limits.{input_limit}
-use Rattle.sd_script.specs.Lines.{LifeLine, TriesLine, WaitLine, PagesLine, ServerLine, ClientLine, ArchLine, HostLine, ParamsLine, TftpLine, RootLine, FileLine, LinkLine, KernelLine, SwapFileLine, FateLine, StrangerLine, AddrLine, BootLine, WaitCommandLine}
+use Rattle.sd_script.specs.Lines.{LifeLine, TriesLine, WaitLine, PagesLine, ServerLine, ClientLine, ArchLine, HostLine, ParamsLine, TftpLine, RootLine, FileLine, LinkLine, KernelLine, SwapFileLine, FateLine, StrangerLine, FaultLine, AddrLine, BootLine, WaitCommandLine}
 
 -- the word with which a line begins
 abbrev pub spelling : Word → Text
@@ -35,6 +36,7 @@ spelling words.Kernel = codes "kernel"
 spelling words.Swap = codes "swap"
 spelling words.Fate = codes "fate"
 spelling words.Stranger = codes "stranger"
+spelling words.Fault = codes "fault"
 spelling words.Addr = codes "addr"
 spelling words.Boot = codes "boot"
 
@@ -57,6 +59,7 @@ WordLine words.Kernel old args new = KernelLine old args new
 WordLine words.Swap old args new = SwapFileLine old args new
 WordLine words.Fate old args new = FateLine old args new
 WordLine words.Stranger old args new = StrangerLine old args new
+WordLine words.Fault old args new = FaultLine old args new
 WordLine words.Addr old args new = AddrLine old args new
 WordLine words.Boot old args new = BootLine old args new
 
@@ -74,14 +77,6 @@ pub record IsWordLine (old : Draft) (line : Text) (new : Draft) : Type 0 where
 -- a line in its place, without its line feed
 abbrev pub IsLine : Draft → Text → Draft → Type 0
 IsLine old line new = (IsSkipped line × (new ≡ old)) ⊎ IsWordLine old line new
-
--- the lines of a text, each with its line feed, which the last may lack
-abbrev pub lines : Text → List Text
-lines [] = []
-lines (b ∷ text) = if b == 10 then (b ∷ []) ∷ lines text else onto_first b (lines text)
-
-abbrev pub without_feed : Text → Text
-without_feed line = before_first (λ b. b == 10) line
 
 -- the lines lead from one draft to another
 abbrev pub Leads : Draft → List Text → Draft → Type 0
@@ -114,7 +109,7 @@ no_config = record {
 }
 
 abbrev pub blank : Draft
-blank = record { section = sections.Life; config = no_config; params_lines = 0; params = file.blank; bytes = 0; fates = []; strangers = []; commands = [] }
+blank = record { section = sections.Life; config = no_config; params_lines = 0; params = file.blank; bytes = 0; fates = []; strangers = []; faults = []; commands = [] }
 
 -- the kernel's path, and the usual one where no line names another
 abbrev pub kernel_or_usual : Text → Text
@@ -123,7 +118,7 @@ kernel_or_usual (b ∷ path) = b ∷ path
 
 -- the script that the draft is
 abbrev pub script_of : Draft → Script
-script_of draft = record { config = record draft.config { kernel = kernel_or_usual draft.config.kernel }; events = record { fates = draft.fates; strangers = draft.strangers }; commands = draft.commands }
+script_of draft = record { config = record draft.config { kernel = kernel_or_usual draft.config.kernel }; events = record { fates = draft.fates; strangers = draft.strangers; faults = draft.faults }; commands = draft.commands }
 
 -- all six lines of the heading came
 abbrev pub IsWhole : Section → Type 0

@@ -7,7 +7,8 @@ use Rattle.sd_config.specs.declared.config.Machine.{Machine}
 use Rattle.sd_script.specs.Lines.{IsMachine, IsRest}
 use Rattle.sd_text.specs.Answers.{OnOutside}
 use Rattle.sd_script.specs.declared.error.ScriptError.{ScriptError}
-use Rattle.sd_script.specs.Grammar.{lines, Says, IsScriptError}
+use Rattle.sd_outside.specs.Lines.{lines}
+use Rattle.sd_script.specs.Grammar.{Says, IsScriptError}
 
 -- A line under the rule R leads from one draft to another, or to none.
 abbrev pub Judges : (Draft → List Text → Draft → Type 0) → Draft → List Text → Draft → Result Unit LineError → Type 0

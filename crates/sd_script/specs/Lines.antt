@@ -12,6 +12,8 @@ use Rattle.sd_config.specs.declared.config.RootItem.TheVariants.{File, Symlink}
 use Rattle.sd_config.specs.declared.config.SwapLine.{SwapLine}
 use Rattle.sd_config.specs.declared.events.Fate.{Fate}
 use Rattle.sd_config.specs.declared.events.Stranger.{Stranger}
+use Rattle.sd_config.specs.declared.events.PlannedFault.{PlannedFault}
+use Rattle.sd_config.specs.declared.events.PlannedFault.TheVariants as planned
 use Rattle.sd_config.specs.declared.command.Command.{Command}
 use Rattle.sd_config.specs.declared.command.Command.TheVariants as commands
 use Rattle.sd_script.specs.declared.draft.Section.{Section}
@@ -47,6 +49,9 @@ with_fate draft fate = record draft { section = sections.Events; fates = draft.f
 
 abbrev pub with_stranger : Draft → Stranger → Draft
 with_stranger draft stranger = record draft { section = sections.Events; strangers = draft.strangers ++ (stranger ∷ []) }
+
+abbrev pub with_fault : Draft → PlannedFault → Draft
+with_fault draft fault = record draft { section = sections.Events; faults = draft.faults ++ (fault ∷ []) }
 
 abbrev pub with_command : Draft → Command → Draft
 with_command draft command = record draft { section = sections.Commands; commands = draft.commands ++ (command ∷ []) }
@@ -319,6 +324,24 @@ pub record StrangerLine (old : Draft) (args : List Text) (new : Draft) : Type 0 
   pub elsewhere : IsElsewhere old.config.client.ip old.config.server.ip stranger.src
   pub few : length old.strangers < stranger_limit
   pub means : new ≡ with_stranger old stranger
+
+-- which call of the client's network fails, and by which number it is known
+abbrev pub fault_word : PlannedFault → Text
+fault_word (planned.Send id) = codes "send"
+fault_word (planned.Recv call) = codes "recv"
+
+abbrev pub fault_number : PlannedFault → ℕ
+fault_number (planned.Send id) = id
+fault_number (planned.Recv call) = call
+
+-- `fault send ID`, `fault recv N`
+pub record FaultLine (old : Draft) (args : List Text) (new : Draft) : Type 0 where
+  pub fault : PlannedFault
+  pub number : Text
+  pub text : args ≡ fault_word fault ∷ number ∷ []
+  pub place : MayBeEvent old.section
+  pub is_number : IsNumber 0 4294967295 number (fault_number fault)
+  pub means : new ≡ with_fault old fault
 
 -- Command lines.
 

@@ -20,6 +20,10 @@ fn stage_word(stage: Stage) -> &'static [u8]
         Stage::Getfile => b"getfile",
         Stage::Getport => b"getport",
         Stage::Mnt => b"mnt",
+        Stage::Lookup => b"lookup",
+        Stage::Readlink => b"readlink",
+        Stage::Read => b"read",
+        Stage::Getattr => b"getattr",
         Stage::Wait => b"wait",
     }
 }

@@ -1,7 +1,7 @@
 //! What the lines of a script say so far, and the words with which they begin.
 
 use crate::fates::FateBook;
-use sd_config::{CommandList, Config, StrangerList};
+use sd_config::{CommandList, Config, FaultList, StrangerList};
 
 /// Which lines may come next. The first six are the lines of the heading, in their order.
 #[derive(Clone, Copy, Debug, PartialEq, Eq)]
@@ -37,6 +37,7 @@ pub enum Word {
     Swap,
     Fate,
     Stranger,
+    Fault,
     Addr,
     Boot,
 }
@@ -53,5 +54,6 @@ pub struct Draft {
     pub bytes: u64,
     pub fates: FateBook,
     pub strangers: StrangerList,
+    pub faults: FaultList,
     pub commands: CommandList,
 }

@@ -2,7 +2,8 @@
 
 ghost use Rattle.std.specs.Prelude.{◌≡◌, ◌⊎◌, List, ℕ};
 ghost use Rattle.sd_script.specs.declared.script.Script.{Script};
-ghost use Rattle.sd_script.specs.Grammar.{IsScript, IsFirstOutside, lines};
+ghost use Rattle.sd_outside.specs.Lines.{lines};
+ghost use Rattle.sd_script.specs.Grammar.{IsScript, IsFirstOutside};
 ghost use Rattle.std.specs.List.{concat};
 
 /// A text is that of one script, or has one first line outside the grammar, and never both. Its lines are the text.

@@ -15,7 +15,7 @@ mod params;
 use crate::draft::{Draft, Section, Word};
 use commands::{addr_line, boot_line, wait_command_line};
 use config::{arch_line, host_line, kernel_line, root_line, swap_line};
-use events::{fate_line, stranger_line};
+use events::{fate_line, fault_line, stranger_line};
 use files::{file_line, link_line, tftp_line};
 use heading::{client_line, life_line, pages_line, server_line, tries_line, wait_line};
 use params::params_line;
@@ -44,6 +44,7 @@ fn word_of(text: &[u8]) -> Option<Word>
         b"swap" => Some(Word::Swap),
         b"fate" => Some(Word::Fate),
         b"stranger" => Some(Word::Stranger),
+        b"fault" => Some(Word::Fault),
         b"addr" => Some(Word::Addr),
         b"boot" => Some(Word::Boot),
         _ => None,
@@ -87,6 +88,7 @@ fn word_line(
         Word::Swap => swap_line(alloc, draft, fields),
         Word::Fate => fate_line(alloc, draft, fields),
         Word::Stranger => stranger_line(alloc, draft, fields),
+        Word::Fault => fault_line(draft, fields),
         Word::Addr => addr_line(draft, fields),
         Word::Boot => boot_line(draft, fields),
     }

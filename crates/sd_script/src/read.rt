@@ -3,7 +3,8 @@
 ghost use Rattle.std.specs.Prelude.{◌≡◌, ◌<◌, ◌∷◌, ◌++◌, length, IsTrue, ◌↔◌, IfOk, IfErr};
 ghost use Rattle.sd_script.specs.Judging.{ReadsLines};
 ghost use Rattle.sd_script.specs.Rules.{KeepsRules};
-ghost use Rattle.sd_script.specs.Grammar.{blank, no_machine, kernel_or_usual, script_of, IsWhole, IsScript, IsScriptError, lines, without_feed};
+ghost use Rattle.sd_outside.specs.Lines.{lines, without_feed};
+ghost use Rattle.sd_script.specs.Grammar.{blank, no_machine, kernel_or_usual, script_of, IsWhole, IsScript, IsScriptError};
 
 use crate::draft::{Draft, Section};
 use crate::error::ScriptError;
@@ -11,9 +12,9 @@ use crate::fates::FateBook;
 use crate::limits::INPUT_LIMIT;
 use crate::lines::read_line;
 use crate::script::Script;
-use sd_config::{CommandList, Config, Events, Machine, StrangerList};
-use sd_outside::{ByteList, ListOf, Mac, NoMemory};
-use sd_text::{LineError, place_of};
+use sd_config::{CommandList, Config, Events, FaultList, Machine, StrangerList};
+use sd_outside::{ByteList, ListOf, Mac, NoMemory, split_line, without_feed};
+use sd_text::LineError;
 use std::alloc::Global;
 
 fn empty_machine(alloc: Global) -> Machine
@@ -55,6 +56,7 @@ fn blank_draft(alloc: Global) -> Draft
         bytes: 0,
         fates: FateBook::empty(alloc),
         strangers: StrangerList::empty(alloc),
+        faults: FaultList::empty(alloc),
         commands: CommandList::empty(alloc),
     }
 }
@@ -81,32 +83,10 @@ fn script_of(alloc: Global, draft: Draft) -> Result<Script, NoMemory>
         events: Events {
             fates: draft.fates.into_list(),
             strangers: draft.strangers,
+            faults: draft.faults,
         },
         commands: draft.commands,
     })
-}
-
-/// The first line, with its line feed where it has one, and what follows it.
-pub fn split_line(text: &[u8]) -> (&[u8], &[u8])
-    requires { 0 < length text.now }
-    ensures lines { lines text.now ≡ result.0.now ∷ lines result.1.now }
-    ensures whole { text.now ≡ result.0.now ++ result.1.now }
-    ensures some { 0 < length result.0.now }
-{
-    match place_of(text, b'\n') {
-        Some(at) => text.split_at(at + 1),
-        None => text.split_at(text.len()),
-    }
-}
-
-/// A line without its line feed.
-pub fn body_of(line: &[u8]) -> &[u8]
-    ensures { result.now ≡ without_feed line.now }
-{
-    match place_of(line, b'\n') {
-        Some(at) => &line[..at],
-        None => line,
-    }
 }
 
 /// Whether all six lines of the heading came.
@@ -132,7 +112,7 @@ fn read_lines(alloc: Global, draft: &mut Draft, text: &[u8]) -> Result<u64, Scri
         if text.len() - after.len() > INPUT_LIMIT {
             return Err(ScriptError::Line { number });
         }
-        match read_line(alloc, draft, body_of(line)) {
+        match read_line(alloc, draft, without_feed(line)) {
             Ok(()) => {}
             Err(LineError::Outside) => return Err(ScriptError::Line { number }),
             Err(LineError::NoMemory) => return Err(ScriptError::NoMemory),

@@ -5,7 +5,7 @@ ghost use Rattle.std.specs.Fmt.{decimal};
 ghost use Rattle.sd_link.specs.Printing.{entry_text};
 ghost use Rattle.sd_link.specs.Steps as steps;
 ghost use Rattle.sd_script.specs.PacketWriting.{head_of_sent};
-ghost use Rattle.sd_text.specs.Writing.{AppendsFront};
+ghost use Rattle.sd_text.specs.Writing.{AppendsPrefix};
 
 use sd_outside::{ByteList, NoMemory, Packet};
 use sd_text::{push_number, write_packet_line};
@@ -42,7 +42,7 @@ pub fn write_sent(
     text: &mut ByteList,
 ) -> Result<(), NoMemory>
     ensures ok { OnOk result (text.new ≡ text.old ++ entry_text (steps.Sent tick id packet.now)) }
-    ensures err { OnErr result (AppendsFront text.old text.new (entry_text (steps.Sent tick id packet.now))) }
+    ensures err { OnErr result (AppendsPrefix text.old text.new (entry_text (steps.Sent tick id packet.now))) }
 {
     let head = sent_head(alloc, tick, id)?;
     text.push_slice(head.as_slice())?;

@@ -1,6 +1,6 @@
 -- A server over a disk that never fails: each packet is served, and there is never a doubt.
-use Rattle.std.proofs.Common.{◌≡◌, ◌⊎◌, inl, inr, ℕ, ◌<◌, ◌≤◌, Bool, true, false, cond, List, [], ◌∷◌, map, Option, Some, None, Err, refl, sym, ap, ◌∙◌, subst, arith, eq-eqb}
-use Rattle.std.specs.Prelude.{is_some, IsSomeAnd, length, ◌&&◌, not}
+use Rattle.std.proofs.Common.{◌≡◌, ◌⊎◌, inl, inr, ℕ, Bool, true, false, cond, List, [], ◌∷◌, map, Option, Some, None, Err, refl, sym, ap, ◌∙◌, subst, arith, eq-eqb}
+use Rattle.std.specs.Prelude.{is_some, IsSomeAnd, length}
 use Rattle.std.specs.List.{flat_map}
 use Rattle.std.proofs.lemmas.Bool.{false≢true}
 use Rattle.sd_outside.specs.declared.calm_disk.CalmDisk.{CalmDisk}
@@ -9,13 +9,12 @@ use Rattle.sd_outside.specs.CalmDisk.{calm_plan}
 use Rattle.sd_outside.specs.DiskPlan.{Both, Makes, TakesNumber, Refuses}
 use Rattle.sd_stable_disk.specs.Image.{held}
 use Rattle.sd_stable_disk.specs.declared.errors.OpenError.{OpenError}
-use Rattle.sd_config.specs.declared.config.Config.{Config}
-use Rattle.sd_services.specs.Part.{Change, ServerPart, opened_with}
+use Rattle.sd_services.specs.Part.{Change, opened_with}
 use Rattle.sd_services.specs.NfsReply.{changed}
 use Rattle.sd_services.specs.NfsCalls.{is_swap_access}
 use Rattle.sd_services.specs.Reply.{out_of, next_of}
 use Rattle.sd_services.specs.Failing.{files_settled}
-use Rattle.sd_server.specs.State.{State, part_with, opened, served}
+use Rattle.sd_server.specs.State.{State, part_with, opened}
 use Rattle.sd_server.specs.Ticks.{after_tick, sent_at}
 use Rattle.sd_server.specs.Turns.{Serves, Does, settled_by, recovers}
 use Rattle.sd_server.specs.Standing.{ServerView, MayBe, Turns as ServerTurns, Ticks}

@@ -1,5 +1,5 @@
 -- One more thing that a segment keeps.
-use Rattle.std.proofs.Common.{◌≡◌, ◌⊎◌, inl, inr, ℕ, zero, suc, ◌+◌, ◌-◌, ◌<◌, ◌≤◌, List, [], ◌∷◌, ◌++◌, length, take, drop, map, replicate, Option, Some, refl, sym, ◌∙◌, ap, subst, arith, append_assoc, length-append}
+use Rattle.std.proofs.Common.{◌≡◌, ℕ, zero, suc, ◌+◌, ◌-◌, ◌<◌, ◌≤◌, List, [], ◌∷◌, ◌++◌, length, take, drop, map, replicate, Option, Some, refl, sym, ◌∙◌, ap, subst, arith, append_assoc, length-append}
 use Rattle.std.specs.Prelude.{slice_get, IsTrue}
 use Rattle.std.specs.Option.{option_map}
 use Rattle.std.specs.List.{AllByRecursion}
@@ -12,7 +12,7 @@ use Rattle.sd_services.specs.Part.{Session, ServerPart}
 use Rattle.sd_services.specs.Sessions.{session_in, with_session, without_session, is_due, sent_again, block_packet}
 use Rattle.sd_services.specs.Reply.{out_of, next_of}
 use Rattle.sd_link.specs.Steps.{Step, Tick, Send, Stray, Serve, Data, End, Get, Fail, IsStrangers, run, after, served, resent, blocks_again, sent_from, replies_to, entries_of, record_of, AllAllowed, Allowed, goes_to_server, goes_to_client}
-use Rattle.sd_link.proofs.Histories.{run-append, allowed-append, record-append, fails-append}
+use Rattle.sd_link.proofs.Histories.{run-append, allowed-append, record-append}
 use Rattle.sd_segment.specs.declared.flown.Origin.TheVariants as origin
 use Rattle.sd_segment.specs.declared.flown.Flown.{Flown}
 use Rattle.sd_segment.specs.declared.flown.Kept.{Kept}
@@ -20,8 +20,6 @@ use Rattle.sd_segment.specs.declared.flown.What.{What}
 use Rattle.sd_segment.specs.declared.flown.What.TheVariants.{Sent, Strayed, Served, Again, Ended, Got, Failed}
 use Rattle.sd_segment.specs.Flight.{flying_of, packet_or, reply_of, replied}
 use Rattle.sd_segment.specs.Kept.{step_of, steps_from, steps_kept, last_kept, sent_entries, entries_of_kept, entries_kept, ids_end}
-use Rattle.sd_link.specs.Link.{last_tick}
-use Rattle.sd_link.specs.Parts.{fails_in}
 use Rattle.sd_segment.specs.Segment.{Keeps, world_at}
 use Rattle.sd_segment.proofs.Dues.{IsComing}
 
@@ -123,21 +121,14 @@ tick-push flight kept tick le =
 
 -- ---- each kind of step
 
--- no receive failed, or it is the last tick
-fails_more : (steps : List Step) (step : Step) (tick : ℕ) → (fails_in steps ≡ 0) ⊎ (tick ≡ last_tick) → (fails_in (step ∷ []) ≡ 0) ⊎ (tick ≡ last_tick) → (fails_in (steps ++ step ∷ []) ≡ 0) ⊎ (tick ≡ last_tick)
-fails_more steps step tick (inr late) plain = inr late
-fails_more steps step tick (inl none) (inr late) = inr late
-fails_more steps step tick (inl none) (inl plain) = inl (omega (arith, fails-append steps (step ∷ []), none, plain))
-
 -- what is kept stays a history where the step does to the world what was kept
 pub keep_step : (c : Config) (part next : ServerPart) (flight more : List Flown) (kept : List Kept) (tick : ℕ) (what : What) (step : Step) → Keeps c part flight kept tick
     → step_of (flight ++ more) what ≡ step → Allowed c (world_at part flight tick) step
     → after c (world_at part flight tick) step ≡ world_at next (flight ++ more) tick
     → entries_of c (world_at part flight tick) step ≡ entries_of_kept (flight ++ more) tick what
     → ids_end what ≤ length (flight ++ more)
-    → (fails_in (step ∷ []) ≡ 0) ⊎ (tick ≡ last_tick)
     → Keeps c next (flight ++ more) (kept ++ record { tick = tick; what = what } ∷ []) tick
-keep_step c part next flight more kept tick what step k is may does writes ends plain =
+keep_step c part next flight more kept tick what step k is may does writes ends =
     let all = flight ++ more in
     let entry : Kept = record { tick = tick; what = what } in
     let steps = steps_kept flight kept tick in
@@ -157,11 +148,10 @@ keep_step c part next flight more kept tick what step k is may does writes ends 
           ∙ sym (flat_map-append (λ j. entries_of_kept all j.tick j.what) kept (entry ∷ []));
       ids = all-push (λ j. ids_end j.what ≤ length all) kept entry (ids-grow (length flight) (length all) kept (omega (arith, length-append flight more)) k.ids) ends;
       ticks = omega (arith, last-push 0 kept entry);
-      fails = subst (λ (l : List Step). (fails_in l ≡ 0) ⊎ (tick ≡ last_tick)) (sym push) (fails_more steps step tick k.fails plain);
     }
 
-pub keep_tick : (c : Config) (part : ServerPart) (flight : List Flown) (kept : List Kept) (tick : ℕ) → tick < last_tick → Keeps c part flight kept tick → Keeps c part flight kept (tick + 1)
-keep_tick c part flight kept tick early k =
+pub keep_tick : (c : Config) (part : ServerPart) (flight : List Flown) (kept : List Kept) (tick : ℕ) → Keeps c part flight kept tick → Keeps c part flight kept (tick + 1)
+keep_tick c part flight kept tick k =
     let steps = steps_kept flight kept tick in
     let push = tick-push flight kept tick k.ticks in
     record {
@@ -172,12 +162,7 @@ keep_tick c part flight kept tick early k =
           ap (λ l. record_of c (start c) l) push ∙ record-append c (start c) steps (Tick ∷ []) ∙ append-nil (record_of c (start c) steps) ∙ k.entries;
       ids = k.ids;
       ticks = omega (arith, k.ticks);
-      fails = inl (ap fails_in push ∙ none_failed k.fails);
     }
-  where
-    none_failed : (fails_in (steps_kept flight kept tick) ≡ 0) ⊎ (tick ≡ last_tick) → fails_in (steps_kept flight kept tick ++ Tick ∷ []) ≡ 0
-    none_failed (inl none) = omega (arith, fails-append (steps_kept flight kept tick) (Tick ∷ []), none)
-    none_failed (inr late) = absurd (omega (arith, early, late))
 
 pub get-last : {A : Type 0} (xs : List A) (x : A) → slice_get (xs ++ x ∷ []) (length xs) ≡ Some x
 get-last [] x = refl
@@ -200,7 +185,6 @@ keep_sent c part flight kept tick packet fate k =
     (ap (λ l. record w { flight = l }) (sym (map-append flying_of flight (f ∷ []))))
     (ap (λ n. Rattle.sd_link.specs.Steps.Sent tick n packet ∷ []) (length-map flight flying_of) ∙ ap (λ l. sent_entries tick (length flight) (take 1 l)) (sym (drop_at flight (f ∷ []) (length flight) refl)))
     (omega (arith, length-append flight (f ∷ [])))
-    (inl refl)
 
 replied-flying : (tick : ℕ) (fate : Option ℕ) (packets : List Packet) → map flying_of (replied tick fate packets) ≡ map (λ packet. record { from = Server; tick = tick; packet = packet }) packets
 replied-flying tick fate [] = refl
@@ -233,7 +217,6 @@ keep_served c part next flight kept tick id f fate packets k at come out becomes
     ∙ ap (λ l. Rattle.sd_link.specs.Steps.Served tick id ∷ l) (replied-entries tick (length flight) fate packets)
     ∙ ap (λ l. Rattle.sd_link.specs.Steps.Served tick id ∷ sent_entries tick (length flight) l) (sym (stretch flight more (length packets) (length-map packets _))))
     (omega (arith, length-append flight more, length-map packets (reply_of tick fate)))
-    (inl refl)
   where
     stretch : (xs ys : List Flown) (n : ℕ) → length ys ≡ n → take n (drop (length xs) (xs ++ ys)) ≡ ys
     stretch xs ys n is = ap (λ l. take n l) (drop_at xs ys (length xs) refl) ∙ take_all n ys (omega arith)
@@ -253,8 +236,7 @@ keep_got c part flight kept tick id f k at inside come =
     (come.f, come.here, come.goes_there, ap (λ (x : Flying). x.packet) is)
     (ap (λ l. world_at part l tick) (sym same))
     refl
-    (omega (arith, ap length same))
-    (inl refl))
+    (omega (arith, ap length same)))
 
 -- a stranger sends
 pub keep_strayed : (c : Config) (part : ServerPart) (flight : List Flown) (kept : List Kept) (tick : ℕ) (f : Flown) (packet : Packet) → Keeps c part flight kept tick → flying_of f ≡ flying Stranger tick packet → IsStrangers c packet
@@ -269,7 +251,6 @@ keep_strayed c part flight kept tick f packet k sent may =
     ∙ ap (λ (x : Flying). Rattle.sd_link.specs.Steps.Sent tick (length flight) x.packet ∷ []) (sym sent)
     ∙ ap (λ l. sent_entries tick (length flight) (take 1 l)) (sym (drop_at flight (f ∷ []) (length flight) refl)))
     (omega (arith, length-append flight (f ∷ [])))
-    (inl refl)
 
 -- a session sends its present block again
 pub keep_again : (c : Config) (part : ServerPart) (flight : List Flown) (kept : List Kept) (tick number : ℕ) (f : Flown) (s : Session) → Keeps c part flight kept tick
@@ -289,7 +270,6 @@ keep_again c part flight kept tick number f s k found due few sent =
     ∙ ap (λ (x : Flying). Rattle.sd_link.specs.Steps.Sent tick (length flight) x.packet ∷ []) (sym sent)
     ∙ ap (λ l. sent_entries tick (length flight) (take 1 l)) (sym (drop_at flight (f ∷ []) (length flight) refl)))
     (omega (arith, length-append flight (f ∷ [])))
-    (inl refl)
 
 -- a session ends
 pub keep_ended : (c : Config) (part : ServerPart) (flight : List Flown) (kept : List Kept) (tick number : ℕ) (s : Session) → Keeps c part flight kept tick
@@ -304,13 +284,12 @@ keep_ended c part flight kept tick number s k found due enough =
     (s, record { found = found; due = due }, enough)
     (ap (λ l. world_at next l tick) (sym same))
     refl
-    (omega arith)
-    (inl refl))
+    (omega arith))
 
 -- a receive fails
-pub keep_failed : (c : Config) (part : ServerPart) (flight : List Flown) (kept : List Kept) (tick : ℕ) → tick ≡ last_tick → Keeps c part flight kept tick
+pub keep_failed : (c : Config) (part : ServerPart) (flight : List Flown) (kept : List Kept) (tick : ℕ) → Keeps c part flight kept tick
     → Keeps c part flight (kept ++ record { tick = tick; what = Failed } ∷ []) tick
-keep_failed c part flight kept tick late k =
+keep_failed c part flight kept tick k =
     let same : flight ++ [] ≡ flight = append-nil flight in
     subst (λ l. Keeps c part l (kept ++ record { tick = tick; what = Failed } ∷ []) tick) same
     (keep_step c part part flight [] kept tick Failed Fail k
@@ -318,8 +297,7 @@ keep_failed c part flight kept tick late k =
     tt
     (ap (λ l. world_at part l tick) (sym same))
     refl
-    (omega arith)
-    (inr late))
+    (omega arith))
 
 pub keep_none : (c : Config) → Keeps c (start c).server [] [] 0
-keep_none c = record { world = refl; allowed = tt; entries = refl; ids = tt; ticks = omega arith; fails = inl refl }
+keep_none c = record { world = refl; allowed = tt; entries = refl; ids = tt; ticks = omega arith }

@@ -7,7 +7,9 @@ pub mod Turning
 pub mod Orderly
 pub mod SessionTurns
 pub mod Joining
+pub mod FailuresCounted
 pub mod Straying
+pub mod LinesAt
 pub mod Starting
 pub mod InFlight
 pub mod Passing

@@ -1,5 +1,5 @@
 -- A disk with the files of the start.
-use Rattle.std.proofs.Common.{◌≡◌, ℕ, zero, suc, ◌<◌, ◌≤◌, List, [], ◌∷◌, length, get_or, Some, ap, arith}
+use Rattle.std.proofs.Common.{◌≡◌, ℕ, zero, suc, ◌<◌, ◌≤◌, List, [], ◌∷◌, get_or, Some, ap, arith}
 use Rattle.std.specs.Result.{result_ok}
 use Rattle.sd_stable_disk.specs.Image.{held, holds, rounded, total, zero_files, AreSizes}
 

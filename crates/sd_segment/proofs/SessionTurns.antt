@@ -1,19 +1,17 @@
 -- The sessions that are due at a tick have their turns, one after another: each is the world's step Data or End.
-use Rattle.std.proofs.Common.{◌≡◌, ℕ, zero, suc, ◌+◌, ◌<◌, ◌≤◌, Bool, true, false, cond, not, List, [], ◌∷◌, ◌++◌, length, map, drop, get_or, Option, Some, None, refl, sym, ap, ◌∙◌, subst, arith, eq-eqb, append_assoc, length-append}
-use Rattle.std.specs.Prelude.{◌==◌, ◌||◌, nat_lt, nat_le, IsTrue}
-use Rattle.std.specs.List.{filter, find, flat_map, list_any, AllByRecursion}
+use Rattle.std.proofs.Common.{◌≡◌, ℕ, ◌+◌, ◌<◌, ◌≤◌, Bool, true, false, cond, not, List, [], ◌∷◌, ◌++◌, length, map, drop, get_or, Some, refl, sym, ap, ◌∙◌, subst, arith, eq-eqb, append_assoc, length-append}
+use Rattle.std.specs.Prelude.{◌==◌, ◌||◌, nat_lt}
+use Rattle.std.specs.List.{filter, flat_map, list_any, AllByRecursion}
 use Rattle.std.proofs.lemmas.List.{append-nil}
 use Rattle.std.proofs.lemmas.Bool.{false≢true}
-use Rattle.sd_outside.specs.declared.packet.Packet.{Packet}
 use Rattle.sd_config.specs.declared.config.Config.{Config}
 use Rattle.sd_config.specs.Events.{Fates}
 use Rattle.sd_services.specs.Part.{Session, ServerPart}
 use Rattle.sd_services.specs.Sessions.{is_due, sent_again, block_packet, session_in, with_session, without_session}
-use Rattle.sd_link.specs.World.{World, Flying, Server, flying}
+use Rattle.sd_link.specs.World.{Flying, Server, flying}
 use Rattle.sd_link.specs.Steps.{Step, Data, End}
 use Rattle.sd_link.specs.Lawful.{IsNextDue, due_sessions}
 use Rattle.sd_server.specs.Ticks.{after_tick, sent_at, due_of, dues, Ascending}
-use Rattle.sd_server.specs.declared.ticking.Due.{Due}
 use Rattle.sd_segment.specs.declared.flown.Flown.{Flown}
 use Rattle.sd_segment.specs.declared.flown.Kept.{Kept}
 use Rattle.sd_segment.specs.declared.flown.What.TheVariants.{Again, Ended}

@@ -1,7 +1,7 @@
 -- Strangers send what they send at a tick before anything else happens in it.
-use Rattle.std.proofs.Common.{◌≡◌, ℕ, zero, suc, ◌+◌, ◌≤◌, Bool, true, false, cond, List, [], ◌∷◌, ◌++◌, length, map, drop, get_or, Option, Some, None, refl, sym, ap, ◌∙◌, subst, arith, eq-eqb, append_assoc, length-append}
-use Rattle.std.specs.Prelude.{◌==◌, ◌&&◌, ◌||◌, slice_get}
-use Rattle.std.specs.List.{All, filter, flat_map, list_any, AllByRecursion}
+use Rattle.std.proofs.Common.{◌≡◌, ℕ, ◌+◌, ◌≤◌, Bool, true, false, cond, List, [], ◌∷◌, ◌++◌, length, map, Option, Some, None, refl, sym, ap, ◌∙◌, subst, arith, eq-eqb, append_assoc, length-append}
+use Rattle.std.specs.Prelude.{◌==◌, ◌&&◌, slice_get}
+use Rattle.std.specs.List.{filter, flat_map, AllByRecursion}
 use Rattle.std.proofs.lemmas.List.{append-nil}
 use Rattle.sd_outside.specs.declared.packet.Packet.{Packet}
 use Rattle.sd_config.specs.declared.config.Config.{Config}
@@ -15,7 +15,7 @@ use Rattle.sd_services.specs.Sessions.{session_in, block_packet}
 use Rattle.sd_services.specs.Reply.{out_of}
 use Rattle.sd_link.specs.World.{World, Flying, Sender, Client, Server, Stranger, flying, start, sent_by}
 use Rattle.sd_link.specs.Steps.{Step, Tick, Send, Stray, Serve, Data, End, Get, Fail, after, served, resent, run, IsStrangers}
-use Rattle.sd_link.specs.Lawful.{is_strangers, strayed, StraysAsNamed, AllStrayAsNamed}
+use Rattle.sd_link.specs.Lawful.{is_strangers, strayed, AllStrayAsNamed}
 use Rattle.sd_link.proofs.Histories.{run-append}
 use Rattle.sd_segment.proofs.Joining.{strays-append}
 use Rattle.sd_segment.specs.declared.flown.Flown.{Flown}
@@ -24,12 +24,12 @@ use Rattle.sd_segment.specs.declared.flown.What.TheVariants as what
 use Rattle.sd_segment.specs.Flight.{flying_of, packet_or}
 use Rattle.sd_segment.specs.Kept.{steps_kept, strays_kept}
 use Rattle.sd_segment.specs.Segment.{Keeps, Turns, world_at}
-use Rattle.sd_segment.specs.Strays.{Strayed, is_at, stray_at}
+use Rattle.sd_segment.specs.Strays.{Strayed, stray_at}
 use Rattle.sd_segment.specs.Passing.{AllServes}
 use Rattle.sd_segment.proofs.Fates.{IsTimely}
 use Rattle.sd_segment.proofs.Keeping.{kept-push, get-last, keep_strayed}
 use Rattle.sd_segment.proofs.Turning.{turn_strayed}
-use Rattle.sd_segment.proofs.SessionTurns.{Split, split, no_flight}
+use Rattle.sd_segment.proofs.SessionTurns.{split, no_flight}
 
 -- ---- what strangers sent at a tick
 
@@ -88,6 +88,10 @@ AllWithin (others ∷ steps) = ⊥
 pub within_send : (packet : Packet) → AllWithin (Send packet ∷ [])
 unfolding AllWithin
 within_send packet = tt
+
+pub within_failing : (packet : Packet) → AllWithin (Send packet ∷ Fail ∷ [])
+unfolding AllWithin
+within_failing packet = tt
 
 pub within_serve : (id : ℕ) → AllWithin (Serve id ∷ [])
 unfolding AllWithin
@@ -278,14 +282,3 @@ none_first c (x ∷ xs) all =
 
 pub strays_none : (c : Config) (events : Events) → IsEvents c events → Strayed c (strays_of events) [] (start c) []
 strays_none c events is = record { named = tt; left = sym (none_first c events.strangers (all_recursive (IsStranger c.client.ip c.server.ip) events.strangers is.strangers)) }
-
--- ---- the ticks of the lines
-
--- no line of a tick sends anything
-pub none_at : (tick : ℕ) (lines : List Line) → list_any (is_at tick) lines ≡ false → flat_map (stray_at tick) lines ≡ []
-none_at tick [] none = refl
-none_at tick (x ∷ xs) none = of (x.tick == tick) none (none_at tick xs)
-  where
-    of : (b : Bool) → (b || list_any (is_at tick) xs) ≡ false → (list_any (is_at tick) xs ≡ false → flat_map (stray_at tick) xs ≡ []) → cond b (strays_packet x ∷ []) [] ++ flat_map (stray_at tick) xs ≡ []
-    of true none rest = absurd (cc none)
-    of false none rest = rest none

@@ -1,24 +1,26 @@
 -- A segment after its sessions had their turns.
-use Rattle.std.proofs.Common.{◌≡◌, ℕ, ◌+◌, ◌≤◌, List, [], ◌∷◌, ◌++◌, length, map, refl, sym, ◌∙◌, ap, subst, arith, append_assoc, length-append}
+use Rattle.std.proofs.Common.{◌≡◌, ℕ, ◌+◌, ◌≤◌, List, [], ◌∷◌, ◌++◌, length, map, refl, sym, ◌∙◌, ap, subst, arith, length-append}
 use Rattle.std.specs.List.{flat_map}
 use Rattle.std.proofs.lemmas.List.{length-map}
 use Rattle.sd_outside.specs.declared.packet.Packet.{Packet}
 use Rattle.sd_config.specs.declared.config.Config.{Config}
-use Rattle.sd_config.specs.declared.events.Fate.{Fate}
 use Rattle.sd_config.specs.Events.{fates_of}
 use Rattle.sd_config.specs.Plan.{strays_of}
 use Rattle.sd_segment.proofs.Straying.{strays_on, within_turns}
 use Rattle.sd_services.specs.Part.{ServerPart}
 use Rattle.sd_link.specs.World.{World, Flying, Server, flying}
+use Rattle.sd_link.specs.Steps.{Step, Data, End}
+use Rattle.sd_link.specs.Parts.{sends_in, fails_in}
 use Rattle.sd_link.specs.Link.{last_tick}
 use Rattle.sd_server.specs.Ticks.{after_tick, sent_at, dues, Ascending}
 use Rattle.sd_segment.specs.declared.flown.Flown.{Flown}
 use Rattle.sd_segment.specs.declared.flown.Kept.{Kept}
 use Rattle.sd_segment.specs.Calm.{CalmView}
-use Rattle.sd_segment.specs.Flight.{flying_of, AllFated, Flies}
+use Rattle.sd_segment.specs.Flight.{flying_of, AllFated}
 use Rattle.sd_segment.specs.Kept.{steps_kept, turns_kept}
-use Rattle.sd_segment.specs.Segment.{SegmentView, IsSound, Rests, Keeps, Turns, world_at}
-use Rattle.sd_segment.specs.Passing.{Passes, TakesTurns}
+use Rattle.sd_segment.specs.Segment.{SegmentView, IsSound, Rests, Turns, world_at}
+use Rattle.sd_segment.specs.Passing.{TakesTurns, AllTurns}
+use Rattle.sd_segment.proofs.FailuresCounted.{fails_silent}
 use Rattle.sd_segment.proofs.InFlight.{fated-append}
 use Rattle.sd_segment.proofs.Passing.{timely_of, bounded_of, text-push}
 use Rattle.sd_segment.proofs.SessionTurns.{Went, all_go, few_sent, none_left_due}
@@ -29,6 +31,18 @@ more_long c tick part more sent =
     let packets : List Packet = flat_map (sent_at c tick) part.sessions in
     let long : length more ≡ length packets = sym (length-map more flying_of) ∙ ap (λ (l : List Flying). length l) sent ∙ length-map packets (flying Server tick) in
     omega (arith, long, few_sent c tick part.sessions)
+
+turns-silent : (steps : List Step) → AllTurns steps → sends_in steps ≡ []
+turns-silent [] all = refl
+turns-silent (Data number ∷ steps) all = turns-silent steps all
+turns-silent (End number ∷ steps) all = turns-silent steps all
+turns-silent (others ∷ steps) all = absurd all
+
+turns-fails : (steps : List Step) → AllTurns steps → fails_in steps ≡ 0
+turns-fails [] all = refl
+turns-fails (Data number ∷ steps) all = turns-fails steps all
+turns-fails (End number ∷ steps) all = turns-fails steps all
+turns-fails (others ∷ steps) all = absurd all
 
 abbrev pub turns_next : SegmentView → List Flown → SegmentView
 turns_next s more = record s {
@@ -58,7 +72,7 @@ module _ (s : SegmentView) (more : List Flown) (i : IsSound s) (served : s.to_se
         tick = i.tick;
         ids = omega (arith, room, length-append s.flight more, more_long s.config s.tick s.server more sent);
         drained = omega (arith, i.drained, length-append s.kept (turns_kept s.tick (length s.flight) (dues s.config s.tick s.server.sessions)));
-        calm = i.calm;
+        failing = fails_silent s.config s.events (steps_kept s.flight s.kept s.tick) (steps_kept next.flight next.kept s.tick) w.steps s.calls s.faults w.went i.failing (turns-silent w.steps w.serves) (turns-fails w.steps w.serves);
         strays = strays_on s.config (strays_of s.events) (steps_kept s.flight s.kept s.tick) (steps_kept next.flight next.kept s.tick) w.steps (world_at s.server s.flight s.tick) (world_at next.server next.flight s.tick) w.went i.keeps.world w.keeps.world (within_turns w.steps w.serves) i.strays;
       }
 

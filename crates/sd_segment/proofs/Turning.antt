@@ -1,5 +1,5 @@
 -- Each step comes in its turn.
-use Rattle.std.proofs.Common.{◌≡◌, ℕ, ◌+◌, ◌<◌, ◌≤◌, Bool, true, false, cond, List, [], ◌∷◌, ◌++◌, length, drop, take, map, ◌==◌, Some, refl, sym, ◌∙◌, ap, subst, arith, append_assoc, eq-eqb}
+use Rattle.std.proofs.Common.{◌≡◌, ℕ, ◌+◌, ◌<◌, ◌≤◌, Bool, false, cond, List, [], ◌∷◌, ◌++◌, length, drop, take, map, ◌==◌, Some, refl, sym, ◌∙◌, ap, subst, arith, append_assoc, eq-eqb}
 use Rattle.std.specs.Prelude.{slice_get}
 use Rattle.std.specs.List.{AllByRecursion}
 use Rattle.std.proofs.lemmas.Grind.{flat_map-append}
@@ -10,8 +10,8 @@ use Rattle.sd_config.specs.Events.{Fates}
 use Rattle.sd_link.specs.World.{World, Flying, Sender, start}
 use Rattle.sd_services.specs.Part.{ServerPart}
 use Rattle.sd_link.specs.Steps.{Step, Tick, Send, Stray, Serve, Data, End, Get, Fail, Entry, goes_to_server, goes_to_client, record_of}
-use Rattle.sd_link.specs.Steps as steps
-use Rattle.sd_link.specs.Lawful.{InTurn, AllInTurn, id_at, served_at, got_at, due, due_to_server, due_to_client, due_sessions, IsNextDue, IsFrontOf}
+use Rattle.sd_outside.specs.Streams.{IsPrefixOf}
+use Rattle.sd_link.specs.Lawful.{InTurn, AllInTurn, id_at, served_at, got_at, due, due_to_server, due_to_client, due_sessions, IsNextDue}
 use Rattle.sd_link.specs.Lawful as lawful
 use Rattle.sd_link.proofs.Histories.{in_turn-append}
 use Rattle.sd_segment.specs.declared.flown.Flown.{Flown}
@@ -159,7 +159,7 @@ turn_step c fates part next flight more kept tick what step to_server to_client 
 all_served : (came left whole : List ℕ) → came ++ left ≡ whole → left ≡ [] → came ≡ whole
 all_served came left whole is none = sym (append-nil came) ∙ ap (λ (l : List ℕ). came ++ l) (sym none) ∙ is
 
-next_front : (came left whole : List ℕ) (id : ℕ) → came ++ (id ∷ left) ≡ whole → IsFrontOf (came ++ id ∷ []) whole
+next_front : (came left whole : List ℕ) (id : ℕ) → came ++ (id ∷ left) ≡ whole → IsPrefixOf (came ++ id ∷ []) whole
 next_front came left whole id is = (left, append_assoc came (id ∷ []) left ∙ is)
 
 -- the first and what follows it

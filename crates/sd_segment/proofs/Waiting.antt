@@ -102,7 +102,7 @@ pub went_drained : (old new : SegmentView) (part : List Step) → WentOn old new
 went_drained old new part (inr p) = p.drained
 went_drained old new part (inl same) = ap text_drained same.1
 
-serves-silent : (steps : List Step) → AllServes steps → sends_in steps ≡ []
+pub serves-silent : (steps : List Step) → AllServes steps → sends_in steps ≡ []
 serves-silent [] all = refl
 serves-silent (Stray packet ∷ steps) all = serves-silent steps all
 serves-silent (Serve id ∷ steps) all = serves-silent steps all
@@ -118,7 +118,7 @@ serves-got (Data number ∷ steps) all = serves-got steps all
 serves-got (End number ∷ steps) all = serves-got steps all
 serves-got (others ∷ steps) all = absurd all
 
-serves-fails : (steps : List Step) → AllServes steps → fails_in steps ≡ 0
+pub serves-fails : (steps : List Step) → AllServes steps → fails_in steps ≡ 0
 serves-fails [] all = refl
 serves-fails (Stray packet ∷ steps) all = serves-fails steps all
 serves-fails (Serve id ∷ steps) all = serves-fails steps all

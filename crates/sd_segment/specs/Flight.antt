@@ -1,5 +1,7 @@
 -- The packets that a segment keeps, each with its fate.
 use Rattle.std.specs.Prelude.{◌≡◌, ℕ, ◌+◌, ◌==◌, Bool, List, [], ◌∷◌, ◌++◌, length, map, filter, Option, Some, None, slice_get, if◌then◌else◌}
+use Rattle.std.specs.BTreeMap.{BTreeMap, get}
+use Rattle.std.specs.Ordering.{nat_cmp}
 use Rattle.sd_outside.specs.declared.packet.Packet.{Packet}
 use Rattle.sd_outside.specs.declared.packet.Packet.TheVariants.{Frame}
 use Rattle.sd_config.specs.declared.config.Config.{Config}
@@ -45,6 +47,10 @@ delays_or (Some fate) = fate.delays
 abbrev pub delays_of : List Fate → Option ℕ → List ℕ
 delays_of fates None = 1 ∷ []
 delays_of fates (Some place) = delays_or (slice_get fates place)
+
+-- for each id the map has the place of its fate
+abbrev pub AreFates : BTreeMap ℕ ℕ → List Fate → Type 0
+AreFates places fates = (id : ℕ) → delays_of fates (get nat_cmp places id) ≡ fate_in fates id
 
 -- each packet is kept with the fate of its id, which counts from this one
 abbrev pub AllFated : List Fate → ℕ → List Flown → Type 0

@@ -16,4 +16,5 @@ view_of s = record {
   drained = s.drained;
   faults = s.faults;
   handed = s.handed;
+  calls = s.calls;
 }

@@ -1,7 +1,7 @@
 -- How a segment goes on.
 use Rattle.std.specs.Prelude.{◌≡◌, ◌⊎◌, ℕ, List, [], ◌∷◌, ◌++◌, Option, Some, None}
 use Rattle.sd_outside.specs.declared.packet.Packet.{Packet}
-use Rattle.sd_link.specs.Steps.{Step, Tick, Stray, Serve, Data, End, Get, Fail, world_of}
+use Rattle.sd_link.specs.Steps.{Step, Tick, Send, Stray, Serve, Data, End, Get, Fail, world_of}
 use Rattle.sd_link.specs.Parts.{sends_in, got_in, fails_in}
 use Rattle.sd_link.specs.Link.{TicksBefore, IsReached}
 use Rattle.sd_segment.specs.Segment.{SegmentView, history_of, text_drained}
@@ -42,6 +42,10 @@ AllTurns (others ∷ steps) = ⊥
 -- the sessions had their turns
 abbrev pub TakesTurns : SegmentView → SegmentView → Type 0
 TakesTurns old new = (turns : List Step) × Passes old new turns × AllTurns turns
+
+-- a packet was sent, and the send failed
+abbrev pub FailsToSend : SegmentView → SegmentView → Packet → Type 0
+FailsToSend old new packet = Passes old (record new { faults = old.faults }) (Send packet ∷ Fail ∷ [])
 
 -- a receive failed
 abbrev pub Fails : SegmentView → SegmentView → Type 0

@@ -1,16 +1,16 @@
 -- What a segment stands for: the history that it keeps, and what is still to come at its tick.
 use Rattle.std.specs.List.{AllByRecursion}
-use Rattle.std.specs.Prelude.{◌≡◌, ◌⊎◌, ℕ, ◌≤◌, Bool, List, [], ◌++◌, map, length, take, None}
+use Rattle.std.specs.Prelude.{◌≡◌, ℕ, ◌≤◌, Bool, List, [], ◌++◌, map, length, take, None}
 use Rattle.sd_config.specs.declared.config.Config.{Config}
 use Rattle.sd_config.specs.declared.events.Events.{Events}
 use Rattle.sd_config.specs.Events.{Fates, fates_of, IsEvents}
 use Rattle.sd_config.specs.Plan.{strays_of}
 use Rattle.sd_segment.specs.Strays.{Strayed}
+use Rattle.sd_segment.specs.Failing.{Failing}
 use Rattle.sd_config.specs.Config.{IsConfig}
 use Rattle.sd_link.specs.World.{World, start}
 use Rattle.sd_services.specs.Part.{ServerPart}
 use Rattle.sd_link.specs.Steps.{History, run, record_of, AllAllowed}
-use Rattle.sd_link.specs.Parts.{fails_in}
 use Rattle.sd_link.specs.Lawful.{AllInTurn, served_at, got_at, due_to_server, due_to_client, due_sessions}
 use Rattle.sd_link.specs.Link.{last_tick}
 use Rattle.sd_link.specs.Printing.{record_text}
@@ -38,6 +38,8 @@ pub record SegmentView : Type 0 where
   pub drained : ℕ
   pub faults : ℕ
   pub handed : ℕ
+  -- how many receives were called
+  pub calls : ℕ
 
 -- the history that a segment tells
 abbrev pub history_of : SegmentView → History
@@ -63,8 +65,6 @@ pub record Keeps (c : Config) (part : ServerPart) (flight : List Flown) (kept : 
   pub entries : record_of c (start c) (steps_kept flight kept tick) ≡ entries_kept flight kept
   pub ids : AllByRecursion (λ k. ids_end k.what ≤ length flight) kept
   pub ticks : last_kept 0 kept ≤ tick
-  -- a receive fails at the last tick alone
-  pub fails : (fails_in (steps_kept flight kept tick) ≡ 0) ⊎ (tick ≡ last_tick)
 
 -- each step came in its turn, and what is due at this tick has come or is still to come
 pub record Turns (c : Config) (fates : Fates) (part : ServerPart) (flight : List Flown) (kept : List Kept) (tick : ℕ) (to_server to_client : List ℕ) : Type 0 where
@@ -83,5 +83,5 @@ pub record IsSound (s : SegmentView) : Type 0 where
   pub tick : s.tick ≤ last_tick
   pub ids : length s.flight ≤ last_tick
   pub drained : s.drained ≤ length s.kept
-  pub calm : (s.faults ≡ 0) ⊎ (s.tick ≡ last_tick)
+  pub failing : Failing s.config s.events (steps_kept s.flight s.kept s.tick) s.calls s.faults
   pub strays : Strayed s.config (strays_of s.events) (steps_kept s.flight s.kept s.tick) (world_at s.server s.flight s.tick) []

@@ -14,19 +14,6 @@ use sd_config::{Config, Fate};
 use sd_outside::NoMemory;
 use std::alloc::Global;
 
-/// The place of the first fate with this id.
-pub fn place_of(fates: &[Fate], id: usize) -> Option<usize>
-    ensures { delays_of fates.now result ≡ fate_in fates.now id }
-{
-    let id = id as u64;
-    for place in 0..fates.len() {
-        if fates[place].id == id {
-            return Some(place);
-        }
-    }
-    None
-}
-
 /// Adds the id once for each delay that ends at this tick.
 fn add_copies(
     ids: &mut Queue,

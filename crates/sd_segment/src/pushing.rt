@@ -6,9 +6,8 @@ ghost use Rattle.sd_segment.specs.Flight.{replied, Flies};
 ghost use Rattle.sd_segment.specs.Kept.{turns_kept, strays_kept};
 ghost use Rattle.sd_segment.specs.declared.flown.What.TheVariants as what;
 
-use crate::due::place_of;
 use crate::flown::{Flown, Kept, Origin, What};
-use sd_config::Fate;
+use crate::strays::EventBook;
 use sd_outside::{NoMemory, Packet};
 use sd_server::{Due, PacketList};
 
@@ -53,6 +52,21 @@ pub fn push_both(
     kept.push(entry)?;
     push_reserved(flight, flown);
     Ok(())
+}
+
+/// A packet goes into flight, and its send fails. There is room for it and for both entries.
+pub fn push_failed_send(flight: &mut Vec<Flown>, kept: &mut Vec<Kept>, flown: Flown, id: usize)
+    requires flight_room { vec_len flight.old < vec_capacity flight.old }
+    requires kept_room { vec_len kept.old + 2 ≤ vec_capacity kept.old }
+    ensures flight { flight.new.items ≡ flight.old.items ++ flown ∷ [] }
+    ensures kept { kept.new.items ≡ (kept.old.items ++ record { tick = flown.tick; what = what.Sent id } ∷ []) ++ record { tick = flown.tick; what = what.Failed } ∷ [] }
+{
+    let tick = flown.tick;
+    let what = What::Sent { id };
+    push_reserved(kept, Kept { tick, what });
+    let what = What::Failed;
+    push_reserved(kept, Kept { tick, what });
+    push_reserved(flight, flown);
 }
 
 /// Adds an item for which there is room.
@@ -119,13 +133,13 @@ pub fn push_served(
 }
 
 /// A packet goes into flight, for which there is room.
-fn push_packet(flight: &mut Vec<Flown>, fates: &[Fate], from: Origin, tick: u64, packet: Packet)
+fn push_packet(flight: &mut Vec<Flown>, events: &EventBook, from: Origin, tick: u64, packet: Packet)
     requires { vec_len flight.old < vec_capacity flight.old }
-    ensures flies { Flies fates.now from tick flight.old.items (packet ∷ []) flight.new.items }
+    ensures flies { Flies events.now.fates from tick flight.old.items (packet ∷ []) flight.new.items }
     ensures len { vec_len flight.new ≡ vec_len flight.old + 1 }
     ensures room { vec_capacity flight.old ≤ vec_capacity flight.new }
 {
-    let fate = place_of(fates, flight.len());
+    let fate = events.place_of(flight.len());
     let flown = Flown {
         from,
         tick,
@@ -138,16 +152,16 @@ fn push_packet(flight: &mut Vec<Flown>, fates: &[Fate], from: Origin, tick: u64,
 /// Packets go into flight, for which there is room.
 pub fn push_packets(
     flight: &mut Vec<Flown>,
-    fates: &[Fate],
+    events: &EventBook,
     from: Origin,
     tick: u64,
     packets: PacketList,
 )
     requires { vec_len flight.old + length packets ≤ vec_capacity flight.old }
-    ensures { Flies fates.now from tick flight.old.items packets flight.new.items }
+    ensures { Flies events.now.fates from tick flight.old.items packets flight.new.items }
 {
     for packet in packets.into_vec() {
-        push_packet(flight, fates, from, tick, packet);
+        push_packet(flight, events, from, tick, packet);
     }
 }
 

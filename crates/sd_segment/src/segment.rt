@@ -1,17 +1,19 @@
 //! The network between the client and the server: what it holds, and what always holds of it.
-ghost use Rattle.std.specs.Prelude.{◌≡◌, ◌⊎◌, ◌≤◌, [], Some, IfOk, IfErr, IsTrue, IsFalse};
+ghost use Rattle.std.specs.Prelude.{◌≡◌, ◌⊎◌, ◌+◌, ◌-◌, ◌^◌, ◌≤◌, min, [], Some, IfOk, IsTrue, IsFalse};
 ghost use Rattle.std.specs.Option.{option_and_then};
 ghost use Rattle.sd_config.specs.Events.{IsEvents};
 ghost use Rattle.sd_config.specs.Plan.{plan_of};
 ghost use Rattle.sd_services.specs.Part.{swap_files};
 ghost use Rattle.sd_stable_disk.specs.Image.{held};
-ghost use Rattle.sd_link.specs.Lawful.{IsOrderly, FailsAsPlanned, IsFrontOf};
+ghost use Rattle.sd_outside.specs.Streams.{IsPrefixOf};
+ghost use Rattle.sd_link.specs.Lawful.{IsOrderly, FailsAsPlanned, named_sends};
 ghost use Rattle.sd_link.specs.Link.{last_tick, IsReached, NothingWaits, IsAtRest};
 ghost use Rattle.sd_link.specs.Steps.{world_of, whole_record};
 ghost use Rattle.sd_link.specs.Printing.{record_text};
+ghost use Rattle.sd_link.specs.Parts.{fails_in};
+ghost use Rattle.sd_link.specs.World.{start};
+ghost use Rattle.sd_segment.specs.Failing.{early_fails};
 ghost use Rattle.sd_config.specs.Config.{IsConfig};
-ghost use Rattle.sd_server.specs.declared.errors.ServerError.TheVariants.{NoMemory as NoRoom};
-ghost use Rattle.sd_segment.specs.declared.errors.SegmentError.TheVariants as refused;
 ghost use Rattle.sd_segment.specs.Segment.{history_of, text_drained, Rests};
 
 mod link;
@@ -19,13 +21,11 @@ mod steps;
 mod waiting;
 
 use crate::calm::CalmServer;
-use crate::errors::SegmentError;
 use crate::flown::{Flown, Kept};
 use crate::queue::Queue;
 use crate::strays::EventBook;
 use sd_config::{Config, Events};
 use sd_outside::{CalmDisk, Disk, NoMemory};
-use sd_server::ServerError;
 use std::alloc::Global;
 use std::marker::Model;
 
@@ -54,6 +54,8 @@ pub struct Segment {
     drained: usize,
     faults: u64,
     handed: u64,
+    /// How many receives were called.
+    calls: u64,
 }
 
 impl Model for Segment {
@@ -68,16 +70,6 @@ impl Model for Segment {
     ghost invariant = { λ s. IsSound (view_of s) };
 }
 
-/// Why there is no segment.
-fn refusal_of(error: ServerError) -> SegmentError
-    ensures { error ≡ NoRoom → result ≡ refused.NoMemory }
-{
-    match error {
-        ServerError::NoMemory => SegmentError::NoMemory,
-        error => SegmentError::Server(error),
-    }
-}
-
 impl Segment {
     /// A network at tick 0, in which nothing was sent, with its server over a disk that holds the files of the start: the swap
     /// file's zeros, or no file where there is no swap line. Such a disk is never refused for what it holds.
@@ -86,26 +78,24 @@ impl Segment {
         config: Config,
         events: Events,
         disk: CalmDisk,
-    ) -> Result<Segment, SegmentError>
+    ) -> Result<Segment, NoMemory>
         requires config { IsConfig config }
         requires events { IsEvents config events }
         requires holds { option_and_then held (⟦<CalmDisk as Disk>⟧.seen disk) ≡ Some (swap_files config.swap) }
-        ensures refused { IfErr result (λ error. error ≡ refused.NoMemory) }
         ensures told { IfOk result (λ segment. history_of segment ≡ record { config = config; events = events; steps = [] }) }
         ensures drained { IfOk result (λ segment. text_drained segment ≡ []) }
         ensures clock { IfOk result (λ segment. segment.tick ≡ 0) }
         ensures faults { IfOk result (λ segment. segment.faults ≡ 0) }
         ensures handed { IfOk result (λ segment. segment.handed ≡ 0) }
+        ensures calls { IfOk result (λ segment. segment.calls ≡ 0) }
         ensures whole { IfOk result (λ segment. IsFalse segment.broken) }
     {
         let server = match CalmServer::open(alloc, config, disk) {
             Ok(server) => server,
-            Err(error) => return Err(refusal_of(error)),
+            // It is refused for want of memory alone.
+            Err(_) => return Err(NoMemory),
         };
-        let events = match EventBook::over(alloc, events) {
-            Ok(book) => book,
-            Err(NoMemory) => return Err(SegmentError::NoMemory),
-        };
+        let events = EventBook::over(alloc, events)?;
         Ok(Segment {
             alloc,
             server,
@@ -119,21 +109,23 @@ impl Segment {
             drained: 0,
             faults: 0,
             handed: 0,
+            calls: 0,
         })
     }
 
     /// What holds of every segment, whatever calls were made: it does nothing.
     pub fn facts(&self)
         ensures orderly { let h = history_of self.now in IsOrderly h.config (plan_of h.events) h.steps }
-        // A receive fails where it would need a tick past the last one, and nowhere else.
+        // A receive that no line names fails where it would need a tick past the last one, and nowhere else.
         ensures receives { (let h = history_of self.now in FailsAsPlanned h.config (plan_of h.events) h.steps) ⊎ (self.now.tick ≡ last_tick) }
+        ensures early { let h = history_of self.now in early_fails h.config (start h.config) h.steps ≤ named_sends (plan_of h.events).sends h.config (start h.config) h.steps + (plan_of h.events).receives }
         ensures world { IsReached (history_of self.now) }
         ensures rests { Rests self.now → IsAtRest (history_of self.now) }
         ensures clock { (world_of (history_of self.now)).tick ≡ self.now.tick }
-        ensures drained { IsFrontOf (text_drained self.now) (record_text (whole_record (history_of self.now))) }
+        ensures drained { IsPrefixOf (text_drained self.now) (record_text (whole_record (history_of self.now))) }
 
-        // Nothing fails before the last tick.
-        ensures faults { (self.now.faults ≡ 0) ⊎ (self.now.tick ≡ last_tick) }
+        // Each failure is counted, and nothing else.
+        ensures faults { self.now.faults ≡ min (fails_in (history_of self.now).steps) (2 ^ 64 - 1) }
     {
         let _tick = self.tick;
     }
@@ -143,7 +135,7 @@ impl Segment {
         ensures stood { (world_of (history_of self.now)).tick ≡ self.now.tick }
         ensures bound { result ≤ last_tick }
         ensures bounded { IsReached (history_of self.now) }
-        ensures front { IsFrontOf (text_drained self.now) (record_text (whole_record (history_of self.now))) }
+        ensures prefix { IsPrefixOf (text_drained self.now) (record_text (whole_record (history_of self.now))) }
         // Where nothing is still to come to the client, all that is due to it has come.
         ensures settled { self.now.to_client ≡ [] → NothingWaits (history_of self.now) }
     {

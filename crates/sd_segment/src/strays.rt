@@ -1,86 +1,60 @@
-//! The events of a script, and what strangers send.
-ghost use Rattle.std.specs.Prelude.{◌≡◌, ◌||◌, ◌++◌, ℕ, IfOk, OnOk};
-ghost use Rattle.std.specs.BTreeSet.{contains};
+//! The events of a script: what strangers send, and which calls fail.
+ghost use Rattle.std.specs.Prelude.{◌≡◌, IfOk};
 ghost use Rattle.std.specs.List.{flat_map, list_any};
-ghost use Rattle.std.specs.Ordering.{nat_cmp};
-ghost use Rattle.sd_config.specs.Plan.{strays_packet};
-ghost use Rattle.sd_segment.specs.Strays.{is_at, stray_at};
+ghost use Rattle.sd_config.specs.Events.{fate_in};
+ghost use Rattle.sd_config.specs.Plan.{plan_of};
+ghost use Rattle.sd_segment.specs.Flight.{delays_of};
+ghost use Rattle.sd_segment.specs.Failing.{names_call};
+ghost use Rattle.sd_segment.specs.Strays.{stray_at};
 
-use sd_config::{Events, Fate, Stranger};
-use sd_outside::{NoMemory, Packet};
+use crate::faults::{NamedCalls, named_calls};
+use crate::places::fate_places;
+use crate::stray_lines::{packets_of, stray_places};
+use sd_config::{Events, Fate};
+use sd_outside::NoMemory;
 use sd_server::PacketList;
 use std::alloc::Global;
-use std::collections::BTreeSet;
+use std::collections::BTreeMap;
 use std::marker::Model;
 
-/// The datagram of a line.
-fn packet_of(line: &Stranger) -> Result<Packet, NoMemory>
-    ensures { IfOk result (λ packet. packet ≡ strays_packet line.now) }
-{
-    Ok(Packet::Udp {
-        src: line.src,
-        dst: line.dst,
-        body: line.body.copy()?,
-    })
-}
-
-/// One more, where its tick is this.
-fn push_stray(list: &mut PacketList, line: &Stranger, tick: u64) -> Result<(), NoMemory>
-    ensures { OnOk result (list.new ≡ list.old ++ stray_at tick line.now) }
-{
-    if line.tick == tick {
-        list.push(packet_of(line)?)?;
-    }
-    Ok(())
-}
-
-/// What the lines of a tick send, in their order.
-fn packets_at(alloc: Global, lines: &[Stranger], tick: u64) -> Result<PacketList, NoMemory>
-    ensures { IfOk result (λ list. list ≡ flat_map (stray_at tick) lines.now) }
-{
-    let mut list = PacketList::empty(alloc);
-    for line in lines {
-        push_stray(&mut list, line, tick)?;
-    }
-    Ok(list)
-}
-
-/// Adds the ticks of the lines.
-fn add_ticks(ticks: &mut BTreeSet<u64>, lines: &[Stranger]) -> Result<(), NoMemory>
-    ensures { OnOk result ((tick : ℕ) → contains nat_cmp ticks.new tick ≡ (contains nat_cmp ticks.old tick || list_any (is_at tick) lines.now)) }
-{
-    for line in lines {
-        ticks.insert(line.tick)?;
-    }
-    Ok(())
-}
-
-/// The events of a script. Whether strangers send at a tick is told without a walk over their lines.
+/// The events of a script. The fate of a packet, whether strangers send at a tick, and whether a call fails, are found without a
+/// walk over the lines.
 #[derive(Drop)]
 pub struct EventBook {
     events: Events,
-    /// The ticks of the lines of strangers.
-    ticks: BTreeSet<u64>,
+    /// The places of the lines of strangers, by their ticks.
+    lines: BTreeMap<u64, Vec<usize>>,
+    named: NamedCalls,
+    /// The places of the fates, by the ids of the packets.
+    places: BTreeMap<u64, usize>,
 }
 
 impl Model for EventBook {
     ghost use Rattle.sd_config.specs.declared.events.Events.{Events};
-    ghost use Rattle.sd_segment.specs.Strays.{AreTicks};
+    ghost use Rattle.sd_segment.specs.Strays.{ArePlaces};
+    ghost use Rattle.sd_segment.specs.Failing.{AreNamed};
+    ghost use Rattle.sd_segment.specs.Flight.{AreFates};
 
     ghost Value = { Events };
 
     ghost view = { λ book. book.events };
 
-    ghost invariant = { λ book. AreTicks book.ticks book.events.strangers };
+    ghost invariant = { λ book. ArePlaces book.lines book.events.strangers × AreNamed book.named.sends book.named.receives book.events.faults × AreFates book.places book.events.fates };
 }
 
 impl EventBook {
     pub fn over(alloc: Global, events: Events) -> Result<EventBook, NoMemory>
         ensures { IfOk result (λ book. book ≡ events) }
     {
-        let mut ticks = BTreeSet::new(alloc);
-        add_ticks(&mut ticks, events.strangers.as_slice())?;
-        Ok(EventBook { events, ticks })
+        let lines = stray_places(alloc, events.strangers.as_slice())?;
+        let named = named_calls(alloc, events.faults.as_slice())?;
+        let places = fate_places(alloc, events.fates.as_slice())?;
+        Ok(EventBook {
+            events,
+            lines,
+            named,
+            places,
+        })
     }
 
     pub fn fates(&self) -> &[Fate]
@@ -89,13 +63,40 @@ impl EventBook {
         self.events.fates.as_slice()
     }
 
+    /// The place of the fate of the packet with this id.
+    pub fn place_of(&self, id: usize) -> Option<usize>
+        ensures { delays_of self.now.fates result ≡ fate_in self.now.fates id }
+    {
+        let id = id as u64;
+        self.places.get(&id).copied()
+    }
+
+    /// Whether the client's send of the packet with this id is to fail.
+    pub fn fails_send(&self, id: usize) -> bool
+        ensures { result ≡ (plan_of self.now).sends id }
+    {
+        let id = id as u64;
+        self.named.sends.contains(&id)
+    }
+
+    /// Whether this receive of the client is to fail, counted from 0.
+    pub fn fails_call(&self, call: u64) -> bool
+        ensures { result ≡ list_any (names_call call) self.now.faults }
+    {
+        self.named.receives.contains(&call)
+    }
+
     /// What strangers send at a tick, in the order of the lines.
     pub fn strays_at(&self, alloc: Global, tick: u64) -> Result<PacketList, NoMemory>
         ensures { IfOk result (λ list. list ≡ flat_map (stray_at tick) self.now.strangers) }
     {
-        if !self.ticks.contains(&tick) {
-            return Ok(PacketList::empty(alloc));
+        match self.lines.get(&tick) {
+            None => Ok(PacketList::empty(alloc)),
+            Some(places) => Ok(packets_of(
+                alloc,
+                self.events.strangers.as_slice(),
+                places.as_slice(),
+            )?),
         }
-        Ok(packets_at(alloc, self.events.strangers.as_slice(), tick)?)
     }
 }

@@ -1,12 +1,14 @@
 //! The segment under a small client, which follows schedules.
 
 mod calls;
+mod faults;
 mod schedules;
 mod strangers;
 mod transfers;
 
 use crate::{Segment, new_disk};
 use calls::{CALLS, LINES};
+use faults::FAULTS;
 use schedules::SCHEDULES;
 use sd_link::{Link, LinkError};
 use sd_outside::{ByteList, NoMemory};
@@ -66,7 +68,7 @@ fn number(digits: &[u8]) -> u64 {
     number
 }
 
-fn perform(alloc: Global, segment: &mut Segment, act: &[u8]) -> Result<(), LinkError> {
+fn do_act(alloc: Global, segment: &mut Segment, act: &[u8]) -> Result<(), LinkError> {
     let Some((kind, digits)) = act.split_first() else {
         return Err(LinkError::Failed);
     };
@@ -79,6 +81,17 @@ fn perform(alloc: Global, segment: &mut Segment, act: &[u8]) -> Result<(), LinkE
         b't' => receive(segment, number(digits), 1),
         b'w' => receive(segment, number(digits), 100),
         _ => Err(LinkError::Failed),
+    }
+}
+
+/// An act, which fails where it stands behind an `x`.
+fn perform(alloc: Global, segment: &mut Segment, act: &[u8]) -> Result<(), LinkError> {
+    match act.split_first() {
+        Some((b'x', failing)) => match do_act(alloc, segment, failing) {
+            Err(LinkError::Failed) => Ok(()),
+            _ => Err(LinkError::Failed),
+        },
+        _ => do_act(alloc, segment, act),
     }
 }
 
@@ -151,6 +164,18 @@ fn follows_schedules(rt: HostRuntime) -> Result<(), Fail> {
 #[test]
 fn follows_strangers(rt: HostRuntime) -> Result<(), Fail> {
     for (place, (life, events, acts, record)) in STRANGERS.iter().enumerate() {
+        let want = whole(rt.alloc(), record)?;
+        match record_of(rt.alloc(), life, events, acts) {
+            Some(got) => assert_eq!(rt; got.as_slice(), want.as_slice(), "row {place}"),
+            None => assert!(rt; false, "refused: row {place}"),
+        }
+    }
+    Ok(())
+}
+
+#[test]
+fn follows_faults(rt: HostRuntime) -> Result<(), Fail> {
+    for (place, (life, events, acts, record)) in FAULTS.iter().enumerate() {
         let want = whole(rt.alloc(), record)?;
         match record_of(rt.alloc(), life, events, acts) {
             Some(got) => assert_eq!(rt; got.as_slice(), want.as_slice(), "row {place}"),

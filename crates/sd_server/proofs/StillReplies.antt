@@ -18,11 +18,12 @@ use Rattle.sd_mount.specs.declared.message.MountResult.{MountResult}
 use Rattle.sd_mount.specs.Tables.{Mount}
 use Rattle.sd_config.specs.declared.config.Config.{Config}
 use Rattle.sd_services.specs.Part.{ServerPart, Replied, silence}
-use Rattle.sd_services.specs.RpcCalls.{auth_null, reply_with, reply_to}
-use Rattle.sd_services.specs.MountReply.{mount, mount_to_ask, mount_args_in, mount_answer}
-use Rattle.sd_services.specs.NfsCalls.{nfs, is_swap_access}
-use Rattle.sd_services.specs.RpcReply.{is_rpc_port, portmapper, bootparams, rpc_packet, as_packets, rpc_reply}
-use Rattle.sd_services.specs.Reply.{out_of, port_reply, is_heard}
+use Rattle.sd_services.specs.RpcCalls.{auth_null, reply_with, reply_to, asked}
+use Rattle.sd_services.specs.MountReply.{mount, mount_port, mount_to_ask, mount_args_in, mount_answer, mounts_by, mounts_asked, mounts_after}
+use Rattle.sd_services.specs.NfsCalls.{nfs, is_swap_access, change_of}
+use Rattle.sd_services.specs.NfsReply.{changed}
+use Rattle.sd_services.specs.RpcReply.{is_rpc_port, portmapper, bootparams, rpc_packet, as_packets, mounts_then, rpc_reply}
+use Rattle.sd_services.specs.Reply.{reply, out_of, next_of, port_reply, is_heard}
 use Rattle.sd_services.specs.Sessions.{is_session_port, tftp_reply}
 use Rattle.sd_server.specs.declared.replies.Answer.{Answer}
 use Rattle.sd_server.specs.declared.access.Access.{Access}
@@ -56,6 +57,24 @@ mount_still c mounts from body none =
     replies (mount c mounts from) (λ v. None) body
     ∙ replied_still c mounts from (arrival mount_to_ask body) (ap (λ (o : Option Value). uses_mounts_in (option_map mount_args_in o)) (sym (asks_as mount_to_ask (λ v. None) body)) ∙ none)
     ∙ sym (replies (mount c [] from) (λ v. None) body)
+
+mounts_by_still : (c : Config) (mounts : List Mount) (from : ℕ) (args : MountArgs) → uses_mounts args ≡ false → mounts_by c mounts from args ≡ mounts
+mounts_by_still c mounts from asks.Null none = refl
+mounts_by_still c mounts from (asks.Mnt path) none = absurd (false≢true (sym none))
+mounts_by_still c mounts from asks.Dump none = refl
+mounts_by_still c mounts from (asks.Umnt path) none = absurd (false≢true (sym none))
+mounts_by_still c mounts from asks.UmntAll none = absurd (false≢true (sym none))
+mounts_by_still c mounts from asks.Export none = refl
+
+mounts_asked_still : (c : Config) (mounts : List Mount) (from : ℕ) (o : Option Value) → uses_mounts_in (option_map mount_args_in o) ≡ false → mounts_asked c mounts from o ≡ mounts
+mounts_asked_still c mounts from None none = refl
+mounts_asked_still c mounts from (Some v) none = mounts_by_still c mounts from (mount_args_in v) none
+
+-- a call that doesn't use them leaves the mounts as they are
+mounts_still : (c : Config) (mounts : List Mount) (from : ℕ) (body : List ℕ) → asks_mounts body ≡ false → mounts_after c mounts from body ≡ mounts
+mounts_still c mounts from body none =
+    let same : asked (mount c mounts from) body ≡ asked mount_to_ask body = asks_as (mount c mounts from) (λ v. None) body ∙ sym (asks_as mount_to_ask (λ v. None) body) in
+    mounts_asked_still c mounts from (asked (mount c mounts from) body) (ap (λ (o : Option Value). uses_mounts_in (option_map mount_args_in o)) same ∙ none)
 
 -- whether a datagram is such a call, by how far it comes
 pub asks_by : (body : List ℕ) (a : Arrival) → arrival mount_to_ask body ≡ a → asks_mounts body ≡ uses_mounts_in (option_map mount_args_in (asked_by a))
@@ -101,6 +120,20 @@ module _ (c : Config) (tick : ℕ) (part : ServerPart) (src dst : Addr) (body : 
           let off = no_tftp tftp is in
           ap (λ (r : Replied). r.out) (elsewhere c tick part src dst.port body off) ∙ sym (ap (λ (r : Replied). r.out) (elsewhere c 0 still src dst.port body off))
 
+  mounts_then_still : is_of_mounts c (Udp src dst body) ≡ false → mounts_then c part src dst.port body ≡ part.mounts
+  mounts_then_still mounts = of (dst.port == mount_port) refl
+    where
+      of : (m : Bool) → (dst.port == mount_port) ≡ m → cond m (mounts_after c part.mounts src.ip body) part.mounts ≡ part.mounts
+      of true is = mounts_still c part.mounts src.ip body (no_mounts mounts is)
+      of false is = refl
+
+  port_stays : is_to_tftp c (Udp src dst body) ≡ false → is_of_mounts c (Udp src dst body) ≡ false → (port_reply c tick part src dst.port body).next ≡ part
+  port_stays tftp mounts = of (is_rpc_port dst.port) refl
+    where
+      of : (rpc : Bool) → is_rpc_port dst.port ≡ rpc → (cond rpc (rpc_reply c part src dst.port body) (tftp_reply c tick part src dst.port body)).next ≡ part
+      of true is = ap (λ (m : List Mount). let p : ServerPart = record part { mounts = m } in p) (mounts_then_still mounts)
+      of false is = ap (λ (r : Replied). r.next) (elsewhere c tick part src dst.port body (no_tftp tftp is))
+
 neither : (a b : Bool) → (a || b) ≡ false → (a ≡ false) × (b ≡ false)
 neither true b is = absurd (false≢true (sym is))
 neither false b is = (refl, is)
@@ -115,12 +148,28 @@ out_still c tick part (Udp src dst body) none = of (is_heard c dst) refl
         port_still c tick part src dst body heard off.0 off.1
     of false heard = refl
 
+reply_stays : (c : Config) (tick : ℕ) (part : ServerPart) (packet : Packet) → (is_to_tftp c packet || is_of_mounts c packet) ≡ false → (reply c tick part packet).next ≡ part
+reply_stays c tick part (Frame bytes) none = refl
+reply_stays c tick part (Udp src dst body) none = of (is_heard c dst) refl
+  where
+    of : (h : Bool) → is_heard c dst ≡ h → (cond h (port_reply c tick part src dst.port body) (silence part)).next ≡ part
+    of true heard =
+        let off = neither (is_to_tftp c (Udp src dst body)) (is_of_mounts c (Udp src dst body)) none in
+        port_stays c tick part src dst body heard off.0 off.1
+    of false heard = refl
+
+next_still : (c : Config) (tick : ℕ) (part : ServerPart) (packet : Packet) → (is_to_tftp c packet || is_of_mounts c packet) ≡ false → change_of c packet ≡ None → next_of c tick part packet ≡ part
+next_still c tick part packet none change =
+    let stays = reply_stays c tick part packet none in
+    λ i. let p : ServerPart = record (stays i) { files = changed (change i) part.files } in p
+
 -- ---- what is given
 
 pub gives_now : (c : Config) (packet : Packet) (answer : Answer) (packets : List Packet) → IsNow c nothing_volatile 0 packet answer → (is_to_tftp c packet || is_of_mounts c packet) ≡ false → packets ≡ packets_in answer.out → GivesStill c packet (Some packets)
 gives_now c packet answer packets now none is = (
   (λ i. now.swap i || none i),
   λ tick part sized. is ∙ (now.answers part.files sized).out ∙ sym (out_still c tick part packet none),
+  λ tick part. next_still c tick part packet none now.change,
 )
 
 pub gives_later : (c : Config) (packet : Packet) (access : Access) → IsLater c nothing_volatile 0 packet access → GivesStill c packet None

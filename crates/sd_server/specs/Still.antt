@@ -12,7 +12,7 @@ use Rattle.sd_services.specs.RpcCalls.{asked}
 use Rattle.sd_services.specs.Sessions.{is_session_port}
 use Rattle.sd_services.specs.MountReply.{mount_port, mount_to_ask, mount_args_in}
 use Rattle.sd_services.specs.NfsCalls.{is_swap_access}
-use Rattle.sd_services.specs.Reply.{out_of}
+use Rattle.sd_services.specs.Reply.{out_of, next_of}
 use Rattle.sd_server.specs.Access.{sizes_of}
 
 -- the calls of MOUNT that read or change who mounted what (RFC 1094, appendix A)
@@ -47,8 +47,9 @@ abbrev pub needs_state : Config → Packet → Bool
 needs_state c packet = is_swap_access c packet || (is_to_tftp c packet || is_of_mounts c packet)
 
 -- What is given without any state: nothing for a packet that needs some, and else the packets that every server with this
--- configuration sends at every tick.
+-- configuration sends at every tick. Such a packet changes nothing in any server.
 abbrev pub GivesStill : Config → Packet → Option (List Packet) → Type 0
 GivesStill c packet None = needs_state c packet ≡ true
 GivesStill c packet (Some out) =
     (needs_state c packet ≡ false) × ((tick : ℕ) (part : ServerPart) → map (λ file. length file) part.files ≡ sizes_of c → out ≡ out_of c tick part packet)
+    × ((tick : ℕ) (part : ServerPart) → next_of c tick part packet ≡ part)

@@ -1,10 +1,6 @@
 //! The RPC programs of the server, and where they are.
 ghost use Rattle.std.specs.Prelude.{◌≡◌, ◌||◌, false};
-ghost use Rattle.sd_services.specs.RpcReply.{is_rpc_port};
 ghost use Rattle.sd_server.specs.Services.{program_of};
-
-use sd_nfs_msg::NFS_PORT;
-use sd_portmap::PMAP_PORT;
 
 /// The port of bootparams.
 pub const BOOTPARAMS_PORT: u16 = 1016;
@@ -71,11 +67,4 @@ impl Service {
             Service::Mount => false,
         }
     }
-}
-
-/// Whether an RPC program is at this port.
-pub fn is_rpc_port(port: u16) -> bool
-    ensures { result ≡ is_rpc_port port }
-{
-    port == PMAP_PORT || port == BOOTPARAMS_PORT || port == MOUNT_PORT || port == NFS_PORT
 }

@@ -1,12 +1,12 @@
-ghost use Rattle.std.specs.Prelude.{IsTrue, ◌↔◌};
+ghost use Rattle.std.specs.Prelude.{◌≡◌, IsTrue, ◌↔◌};
 ghost use Rattle.sd_config.specs.Events.{IsElsewhere};
-ghost use Rattle.sd_text.specs.Answers.{Reads, Tells};
+ghost use Rattle.sd_text.specs.Answers.{Reads, Tells, Finds};
 ghost use Rattle.sd_script.specs.Judging.{Judges, ReadsDelay};
-ghost use Rattle.sd_script.specs.Lines.{FateLine, MayBeEvent, IsDelays, StrangerLine};
+ghost use Rattle.sd_script.specs.Lines.{FateLine, MayBeEvent, IsDelays, StrangerLine, FaultLine, fault_word, fault_number};
 
 use crate::draft::{Draft, Section};
 use crate::limits::{BODY_LIMIT, STRANGER_LIMIT};
-use sd_config::{Config, Fate, Stranger, TickList};
+use sd_config::{Config, Fate, PlannedFault, Stranger, TickList};
 use sd_outside::Addr;
 use sd_portmap::PMAP_PORT;
 use sd_text::{
@@ -105,6 +105,35 @@ pub fn stranger_line(
         dst,
         body,
     })?;
+    draft.section = Section::Events;
+    Ok(())
+}
+
+/// The fault that this word and this number plan.
+fn planned(word: &[u8], number: u64) -> Option<PlannedFault>
+    ensures { Finds (λ fault. (word.now ≡ fault_word fault) × (number ≡ fault_number fault)) result }
+{
+    match word {
+        b"send" => Some(PlannedFault::Send { id: number }),
+        b"recv" => Some(PlannedFault::Recv { call: number }),
+        _ => None,
+    }
+}
+
+/// `fault send ID`, `fault recv N`
+pub fn fault_line(draft: &mut Draft, mut fields: Parts<'_>) -> Result<(), LineError>
+    ensures { Judges FaultLine draft.old fields.entry draft.new result }
+{
+    may_be_event(draft.section)?;
+    let Some(word) = fields.next() else {
+        return Err(LineError::Outside);
+    };
+    let number = take_number(&mut fields, 0, 4_294_967_295)?;
+    take_end(&mut fields)?;
+    let Some(fault) = planned(word, number) else {
+        return Err(LineError::Outside);
+    };
+    draft.faults.push(fault)?;
     draft.section = Section::Events;
     Ok(())
 }

@@ -1,10 +1,13 @@
 //! A segment as the client's link.
-ghost use Rattle.std.specs.Prelude.{◌≡◌, ◌⊎◌, ◌≤◌, ◌<◌, IsTrue, IsErr, OnOk, OnErr, IfErr, Some, None, Ok, Err};
+ghost use Rattle.std.specs.Prelude.{◌≡◌, ◌⊎◌, ◌≤◌, ◌<◌, ◌+◌, ◌-◌, ◌^◌, ◌++◌, ◌∷◌, [], min, length, true, false, IsTrue, IsErr, OnOk, OnErr, Some, None, Ok, Err};
+ghost use Rattle.std.specs.List.{list_any};
+ghost use Rattle.sd_config.specs.Plan.{plan_of};
 ghost use Rattle.sd_link.specs.Link.{Moves, Sends, Receives, LinkCause, Counts, last_tick, Drains, IsReached, IsAtRest};
-ghost use Rattle.sd_link.specs.Steps.{whole_record};
+ghost use Rattle.sd_link.specs.Steps.{Send, Fail, whole_record};
 ghost use Rattle.sd_link.specs.Printing.{record_text};
 ghost use Rattle.sd_link.specs.declared.link.LinkError.TheVariants as refused;
 ghost use Rattle.sd_segment.specs.Segment.{history_of, text_drained, Rests};
+ghost use Rattle.sd_segment.specs.Failing.{names_call};
 
 use crate::printing::lines_of;
 use crate::segment::Segment;
@@ -29,7 +32,7 @@ impl Link for Segment {
         self.tick()
     }
 
-    /// Sends a packet. It never fails, and a refused call changes nothing.
+    /// Sends a packet. It fails exactly where a line names the packet's id, which goes out all the same. Without memory nothing changes.
     fn send(&mut self, packet: &Packet) -> Result<(), LinkError>
         ensures told { Moves (Some (history_of self.old)) (Some (history_of self.new)) (Sends packet.now result) }
         ensures world { IsReached (history_of self.new) }
@@ -38,8 +41,11 @@ impl Link for Segment {
         ensures handed { self.new.handed ≡ self.old.handed }
         ensures drained { text_drained self.new ≡ text_drained self.old }
 
-        ensures why { IfErr result (λ why. why ≡ refused.NoMemory) }
-        ensures err { OnErr result (self.new ≡ self.old) }
+        ensures calm { OnOk result (((plan_of self.old.events).sends (length self.old.flight) ≡ false) × (self.new.faults ≡ self.old.faults)) }
+        ensures failed { result ≡ Err refused.Failed → (plan_of self.old.events).sends (length self.old.flight) ≡ true }
+        ensures out { result ≡ Err refused.Failed → (history_of self.new).steps ≡ (history_of self.old).steps ++ (Send packet.now ∷ Fail ∷ []) }
+        ensures err { result ≡ Err refused.NoMemory → self.new ≡ self.old }
+        ensures calls { self.new.calls ≡ self.old.calls }
         ensures stopped { IsTrue self.old.broken → result ≡ Err refused.NoMemory }
     {
         if !self.is_ready() {
@@ -47,14 +53,11 @@ impl Link for Segment {
         }
         match packet.copy() {
             Err(NoMemory) => Err(LinkError::NoMemory),
-            Ok(packet) => match self.put(packet) {
-                Err(NoMemory) => Err(LinkError::NoMemory),
-                Ok(()) => Ok(()),
-            },
+            Ok(packet) => self.send_copy(packet),
         }
     }
 
-    /// Waits for a packet, until this tick at most.
+    /// Waits for a packet, until this tick at most. A receive that a line names fails at once.
     fn recv(&mut self, until: u64) -> Result<Option<Packet>, LinkError>
         ensures told { Moves (Some (history_of self.old)) (Some (history_of self.new)) (Receives until result) }
         ensures world { IsReached (history_of self.new) }
@@ -64,9 +67,14 @@ impl Link for Segment {
         ensures handed { Counts self.old.handed self.new.handed result }
         ensures drained { text_drained self.new ≡ text_drained self.old }
 
-        // It fails where it would need a tick past the last one, and counts no other fault.
-        ensures late { result ≡ Err refused.Failed → (self.new.tick ≡ last_tick) × (last_tick < until) }
+        // It fails where a line names it, or where it would need a tick past the last one, and counts no other fault.
+        ensures failed { result ≡ Err refused.Failed → (list_any (names_call self.old.calls) self.old.events.faults ≡ true) ⊎ ((self.new.tick ≡ last_tick) × (last_tick < until)) }
+        ensures named { OnOk result (list_any (names_call self.old.calls) self.old.events.faults ≡ false) }
+        // One that a line names fails before anything else happens.
+        ensures at_once { list_any (names_call self.old.calls) self.old.events.faults ≡ true → result ≡ Err refused.Failed → (history_of self.new).steps ≡ (history_of self.old).steps ++ (Fail ∷ []) }
         ensures calm { (result ≡ Err refused.Failed) ⊎ (self.new.faults ≡ self.old.faults) }
+
+        ensures calls { (result ≡ Err refused.NoMemory) ⊎ (self.new.calls ≡ min (self.old.calls + 1) (2 ^ 64 - 1)) }
 
         // Whatever came of the waiting, the server did all that is due to it at that tick.
         ensures rests { OnOk result (Rests self.new) }
@@ -79,7 +87,7 @@ impl Link for Segment {
             self.stop();
             return Err(LinkError::NoMemory);
         }
-        match self.receive(until) {
+        match self.receive_call(until) {
             Ok(packet) => Ok(packet),
             Err(LinkError::Failed) => Err(LinkError::Failed),
             Err(LinkError::NoMemory) => {
@@ -113,6 +121,33 @@ impl Link for Segment {
 }
 
 impl Segment {
+    /// Sends a packet, once the server is done with this tick.
+    fn send_copy(&mut self, packet: Packet) -> Result<(), LinkError>
+        requires ready { Rests self.old }
+        ensures told { Moves (Some (history_of self.old)) (Some (history_of self.new)) (Sends packet result) }
+        ensures world { IsReached (history_of self.old) → IsReached (history_of self.new) }
+        ensures later { self.old.tick ≤ self.new.tick }
+        ensures cause { LinkCause self.old.faults self.new.faults result }
+        ensures handed { self.new.handed ≡ self.old.handed }
+        ensures drained { text_drained self.new ≡ text_drained self.old }
+        ensures calm { OnOk result (((plan_of self.old.events).sends (length self.old.flight) ≡ false) × (self.new.faults ≡ self.old.faults)) }
+        ensures failed { result ≡ Err refused.Failed → (plan_of self.old.events).sends (length self.old.flight) ≡ true }
+        ensures out { result ≡ Err refused.Failed → (history_of self.new).steps ≡ (history_of self.old).steps ++ (Send packet ∷ Fail ∷ []) }
+        ensures err { result ≡ Err refused.NoMemory → self.new ≡ self.old }
+        ensures calls { self.new.calls ≡ self.old.calls }
+    {
+        if self.send_fails() {
+            return match self.put_failing(packet) {
+                Err(NoMemory) => Err(LinkError::NoMemory),
+                Ok(()) => Err(LinkError::Failed),
+            };
+        }
+        match self.put(packet) {
+            Err(NoMemory) => Err(LinkError::NoMemory),
+            Ok(()) => Ok(()),
+        }
+    }
+
     /// Appends the lines of the record since the last drain, once the server is done with this tick.
     fn append(&mut self, text: &mut ByteList) -> Result<(), NoMemory>
         requires ready { Rests self.old }

@@ -1,18 +1,21 @@
 //! Each single step of a segment.
-ghost use Rattle.std.specs.Prelude.{◌≡◌, ◌+◌, ◌-◌, ◌^◌, ◌<◌, ◌≤◌, [], ◌∷◌, drop, min, max, OnOk, OnErr, IfOk, IsTrue, Some, None, slice_get};
+ghost use Rattle.std.specs.Prelude.{◌≡◌, ◌+◌, ◌-◌, ◌^◌, ◌<◌, ◌≤◌, [], ◌∷◌, length, drop, min, max, OnOk, OnErr, IfOk, IsTrue, Some, None, true, false, slice_get};
 ghost use Rattle.sd_link.specs.Link.{last_tick};
 ghost use Rattle.sd_link.specs.Steps.{Send, Serve, Get};
 ghost use Rattle.sd_segment.specs.Segment.{Rests};
 ghost use Rattle.std.specs.List.{list_any};
 ghost use Rattle.sd_outside.specs.Causes.{Rose};
 ghost use Rattle.sd_services.specs.Sessions.{is_due};
-ghost use Rattle.sd_segment.specs.Passing.{Passes, Advances, TakesTurns, Fails};
+ghost use Rattle.sd_segment.specs.Passing.{Passes, Advances, TakesTurns, Fails, FailsToSend};
+ghost use Rattle.sd_segment.specs.Failing.{names_call};
+ghost use Rattle.sd_config.specs.Plan.{plan_of};
 
-use crate::due::{due_ids, place_of};
+use crate::due::due_ids;
 use crate::ends::End;
 use crate::flown::{Flown, Kept, Origin, What};
 use crate::pushing::{
-    next_id, push_both, push_packets, push_served, push_strays, push_turns, reserve_both, room_for,
+    next_id, push_both, push_failed_send, push_packets, push_served, push_strays, push_turns,
+    reserve_both, room_for,
 };
 use crate::segment::Segment;
 use sd_outside::{NoMemory, Packet};
@@ -30,16 +33,88 @@ impl Segment {
         self.to_client.next()
     }
 
+    /// Whether the send of the next packet is to fail.
+    pub(crate) fn send_fails(&self) -> bool
+        ensures { result ≡ (plan_of self.now.events).sends (length self.now.flight) }
+    {
+        self.events.fails_send(self.flight.len())
+    }
+
+    /// Whether the next receive is to fail.
+    pub(crate) fn call_fails(&self) -> bool
+        ensures { result ≡ list_any (names_call self.now.calls) self.now.events.faults }
+    {
+        self.events.fails_call(self.calls)
+    }
+
+    /// A packet of the client goes into flight, and its send fails.
+    pub(crate) fn put_failing(&mut self, packet: Packet) -> Result<(), NoMemory>
+        requires ready { Rests self.old }
+        requires named { (plan_of self.old.events).sends (length self.old.flight) ≡ true }
+        ensures ok { OnOk result (FailsToSend self.old self.new packet) }
+        ensures err { OnErr result (self.new ≡ self.old) }
+        ensures tick { self.new.tick ≡ self.old.tick }
+        ensures handed { self.new.handed ≡ self.old.handed }
+        ensures calls { self.new.calls ≡ self.old.calls }
+        ensures rose { OnOk result (Rose self.old.faults self.new.faults) }
+        ensures later { self.old.faults ≤ self.new.faults }
+    {
+        let id = next_id(self.flight.as_slice())?;
+        let fate = self.events.place_of(id);
+        reserve_both(&mut self.flight, &mut self.kept, 2)?;
+        let tick = self.tick;
+        let flown = Flown {
+            from: Origin::Client,
+            tick,
+            packet,
+            fate,
+        };
+        push_failed_send(&mut self.flight, &mut self.kept, flown, id);
+        self.faults = self.faults.saturating_add(1);
+        Ok(())
+    }
+
+    /// A receive is called that no line names.
+    pub(crate) fn count_call(&mut self)
+        ensures new { self.new ≡ record self.old { calls = min (self.old.calls + 1) (2 ^ 64 - 1) } }
+    {
+        self.calls = self.calls.saturating_add(1);
+    }
+
+    /// A receive that a line names fails.
+    pub(crate) fn fail_call(&mut self) -> Result<(), NoMemory>
+        requires ready { Rests self.old }
+        requires named { list_any (names_call self.old.calls) self.old.events.faults ≡ true }
+        ensures ok { OnOk result (Fails self.old self.new) }
+        ensures err { OnErr result (self.new ≡ self.old) }
+        ensures tick { self.new.tick ≡ self.old.tick }
+        ensures handed { self.new.handed ≡ self.old.handed }
+        ensures calls { OnOk result (self.new.calls ≡ min (self.old.calls + 1) (2 ^ 64 - 1)) }
+        ensures rose { OnOk result (Rose self.old.faults self.new.faults) }
+        ensures later { self.old.faults ≤ self.new.faults }
+    {
+        let failure = Kept {
+            tick: self.tick,
+            what: What::Failed,
+        };
+        self.kept.push(failure)?;
+        self.faults = self.faults.saturating_add(1);
+        self.calls = self.calls.saturating_add(1);
+        Ok(())
+    }
+
     /// A packet of the client goes into flight.
     pub(crate) fn put(&mut self, packet: Packet) -> Result<(), NoMemory>
         requires ready { Rests self.old }
+        requires calm { (plan_of self.old.events).sends (length self.old.flight) ≡ false }
         ensures ok { OnOk result (Passes self.old self.new (Send packet ∷ [])) }
         ensures err { OnErr result (self.new ≡ self.old) }
         ensures tick { self.new.tick ≡ self.old.tick }
         ensures handed { self.new.handed ≡ self.old.handed }
+        ensures calls { self.new.calls ≡ self.old.calls }
     {
         let id = next_id(self.flight.as_slice())?;
-        let fate = place_of(self.events.fates(), id);
+        let fate = self.events.place_of(id);
         let tick = self.tick;
         let flown = Flown {
             from: Origin::Client,
@@ -60,9 +135,10 @@ impl Segment {
         ensures err { OnErr result (self.new ≡ self.old) }
         ensures tick { self.new.tick ≡ self.old.tick }
         ensures handed { self.new.handed ≡ self.old.handed }
+        ensures calls { self.new.calls ≡ self.old.calls }
     {
         let first = next_id(self.flight.as_slice())?;
-        let fate = place_of(self.events.fates(), first);
+        let fate = self.events.place_of(first);
         reserve_both(&mut self.flight, &mut self.kept, 1)?;
         let tick = self.tick;
         let flight = self.flight.as_slice();
@@ -105,6 +181,7 @@ impl Segment {
         ensures err { OnErr result (self.new ≡ self.old) }
         ensures tick { self.new.tick ≡ self.old.tick }
         ensures handed { self.new.handed ≡ self.old.handed }
+        ensures calls { self.new.calls ≡ self.old.calls }
     {
         let turns = self.server.due(self.tick)?;
         let turns = turns.as_slice();
@@ -113,8 +190,13 @@ impl Segment {
         let tick = self.tick;
         let packets = self.server.tick(tick)?;
         push_turns(&mut self.kept, turns, tick, first);
-        let fates = self.events.fates();
-        push_packets(&mut self.flight, fates, Origin::Server, tick, packets);
+        push_packets(
+            &mut self.flight,
+            &self.events,
+            Origin::Server,
+            tick,
+            packets,
+        );
         Ok(())
     }
 
@@ -127,6 +209,7 @@ impl Segment {
         ensures err { OnErr result (self.new ≡ self.old) }
         ensures tick { self.new.tick ≡ self.old.tick }
         ensures handed { self.new.handed ≡ self.old.handed }
+        ensures calls { self.new.calls ≡ self.old.calls }
         ensures rose { OnOk result (Rose self.old.faults self.new.faults) }
         ensures later { self.old.faults ≤ self.new.faults }
     {
@@ -146,6 +229,7 @@ impl Segment {
         ensures err { OnErr result (self.new ≡ self.old) }
         ensures tick { self.new.tick ≡ self.old.tick }
         ensures handed { OnOk result (self.new.handed ≡ max self.old.handed (min (self.old.handed + 1) (2 ^ 64 - 1))) }
+        ensures calls { self.new.calls ≡ self.old.calls }
     {
         let flight = self.flight.as_slice();
         let packet = flight[id].packet.copy()?;
@@ -166,6 +250,7 @@ impl Segment {
         ensures tick { OnOk result (self.new.tick ≡ self.old.tick + 1) }
         ensures err { OnErr result (self.new ≡ self.old) }
         ensures handed { self.new.handed ≡ self.old.handed }
+        ensures calls { self.new.calls ≡ self.old.calls }
     {
         let tick = self.tick + 1;
         let fates = self.events.fates();
@@ -191,7 +276,13 @@ impl Segment {
         let first = room_for(flight, count)?;
         reserve_both(&mut self.flight, &mut self.kept, count)?;
         push_strays(&mut self.kept, count, tick, first);
-        push_packets(&mut self.flight, fates, Origin::Stranger, tick, strays);
+        push_packets(
+            &mut self.flight,
+            &self.events,
+            Origin::Stranger,
+            tick,
+            strays,
+        );
         self.tick = tick;
         self.to_server = to_server;
         self.to_client = to_client;

@@ -12,7 +12,7 @@ loop-packet-preserved c =
     record {
       flies = (
         before.0 ++ c.in-Some.packet ∷ [],
-        flies_then c.args.fates.now c.args.from c.args.tick c.args.flight.now.items c.loop-packet.flight.items c.push_packet.new.flight.items before.0 (c.in-Some.packet ∷ []) before.1 c.push_packet.ensures.flies,
+        flies_then c.args.events.now.fates c.args.from c.args.tick c.args.flight.now.items c.loop-packet.flight.items c.push_packet.new.flight.items before.0 (c.in-Some.packet ∷ []) before.1 c.push_packet.ensures.flies,
         append_assoc before.0 (c.in-Some.packet ∷ []) rest ∙ ap (λ (l : List Packet). before.0 ++ l) (sym step) ∙ before.2,
       );
       room = omega (arith, c.push_packet.ensures.len, c.push_packet.ensures.room, c.loop-packet.invariant.room, ap (λ (l : List Packet). length l) step);

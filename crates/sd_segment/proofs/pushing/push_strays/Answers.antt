@@ -1,4 +1,4 @@
-use Rattle.std.proofs.Common.{◌≡◌, ◌++◌, List, arith}
+use Rattle.std.proofs.Common.{◌++◌, arith}
 use Rattle.sd_segment.specs.Kept.{strays_kept}
 use Rattle.sd_segment.proofs.InFlight.{strays_more}
 use Rattle.sd_segment.proofs.pushing.push_strays.Goals as goal

@@ -1,5 +1,4 @@
-use Rattle.std.proofs.Common.{◌≡◌, List, subst}
-use Rattle.sd_outside.specs.declared.packet.Packet.{Packet}
+use Rattle.std.proofs.Common.{◌≡◌, subst}
 use Rattle.sd_services.specs.Reply.{out_of, next_of}
 use Rattle.sd_segment.specs.Calm.{CalmView, part_of}
 use Rattle.sd_segment.proofs.Calming.{served_calm}

@@ -1,9 +1,5 @@
-use Rattle.std.proofs.Common.{◌≡◌, [], List, Bool, true, false, refl, sym, ap, ◌∙◌, subst}
+use Rattle.std.proofs.Common.{◌≡◌, Bool, true, false, refl, sym, ◌∙◌}
 use Rattle.std.specs.Prelude.{not, IsTrue}
-use Rattle.std.specs.List.{list_any}
-use Rattle.sd_services.specs.Sessions.{is_due}
-use Rattle.sd_segment.specs.Inside.{view_of}
-use Rattle.sd_segment.specs.Segment.{SegmentView, Rests}
 use Rattle.sd_segment.proofs.Waiting.{none_left}
 use Rattle.sd_segment.proofs.SessionTurns.{rest_where}
 use Rattle.sd_segment.proofs.segment.Segment.is_at_rest.Goals as goal

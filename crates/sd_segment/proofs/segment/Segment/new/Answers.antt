@@ -12,6 +12,6 @@ pub invariant_of-result : goal.invariant_of-result
 invariant_of-result c =
     let config : c.in-Ok.server.config ≡ c.args.config = ap (λ (v : CalmView). v.config) c.in-Ok.ensures.opened in
     let part : c.in-Ok.server.part ≡ first_part c.in-Ok.server.config = ap (λ (v : CalmView). v.part) c.in-Ok.ensures.opened ∙ ap (λ (x : Config). first_part x) (sym config) in
-    let events : IsEvents c.in-Ok.server.config c.in-Ok-over.book = subst (λ (e : Events). IsEvents c.in-Ok.server.config e) (sym c.in-Ok-over.ensures) (subst (λ (x : Config). IsEvents x c.args.events) (sym config) c.requires.events) in
+    let events : IsEvents c.in-Ok.server.config c.in_ok-events.events = subst (λ (e : Events). IsEvents c.in-Ok.server.config e) (sym c.in_ok-events.ensures) (subst (λ (x : Config). IsEvents x c.args.events) (sym config) c.requires.events) in
     sound_start _ (subst IsConfig (sym config) c.requires.config) events
-    part c.new.ensures.items c.new-2.ensures.items refl c.empty.ensures c.empty-2.ensures refl refl
+    part c.new.ensures.items c.new-2.ensures.items refl c.empty.ensures c.empty-2.ensures refl refl refl

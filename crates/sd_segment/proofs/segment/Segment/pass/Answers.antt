@@ -1,6 +1,5 @@
-use Rattle.std.proofs.Common.{◌≡◌, ◌+◌, ◌<◌, ◌≤◌, List, [], ◌∷◌, ◌++◌, length, map, ◌∙◌, sym, ap, subst, arith}
+use Rattle.std.proofs.Common.{◌≡◌, ◌+◌, ◌<◌, ◌≤◌, List, [], ◌++◌, length, map, ◌∙◌, sym, ap, subst, arith}
 use Rattle.sd_outside.specs.declared.packet.Packet.{Packet}
-use Rattle.sd_config.specs.declared.events.Fate.{Fate}
 use Rattle.sd_config.specs.Plan.{strays_of}
 use Rattle.std.specs.List.Sorted.{IsNonDecreasingBy}
 use Rattle.sd_link.specs.World.{World as AWorld, flying}
@@ -55,7 +54,7 @@ invariant_of-self-2 c =
     let kept = c.push_strays.ensures ∙ (λ i. (c.reserve_both.ensures.kept i) ++ strays_kept (s.tick + 1) (here i) (count i)) in
     let room : length s.flight + length packets ≤ last_tick = omega (arith, c.in_ok-first.ensures.room, ap (λ (l : List Flown). length l) flight, count) in
     let fated : AllFated s.events.fates (length s.flight) more =
-    subst (λ (l : List Fate). AllFated l (length s.flight) more) fates (subst (λ (l : List Flown). AllFated c.fates-fates.result.now (length l) more) c.reserve_both.ensures.flight flies.fated) in
+    subst (λ (l : List Flown). AllFated s.events.fates (length l) more) c.reserve_both.ensures.flight flies.fated in
     subst IsSound (sym (tick_is s c.push_packets.new.flight.items more c.push_strays.new.kept.items c.in_ok-to_server.to_server c.in_ok-to_client.to_client added kept))
     (sound_tick s more c.in_ok-to_server.to_server c.in_ok-to_client.to_client c.self.invariant early ready no_client server client sent room fated)
 

@@ -1,5 +1,6 @@
-use Rattle.std.proofs.Common.{◌≡◌, ℕ, ◌<◌, [], ◌∷◌, List, length, ◌∙◌, sym, ap, subst}
+use Rattle.std.proofs.Common.{◌≡◌, false, ℕ, ◌<◌, [], ◌∷◌, List, length, ◌∙◌, refl, sym, ap, subst}
 use Rattle.sd_config.specs.Events.{fate_in}
+use Rattle.sd_config.specs.Plan.{plan_of}
 use Rattle.sd_link.specs.Link.{last_tick}
 use Rattle.sd_link.specs.Steps.{Send}
 use Rattle.sd_segment.specs.declared.flown.Flown.{Flown}
@@ -19,9 +20,10 @@ invariant_of-self-2 c =
     let room : length s.flight < last_tick = subst (λ (n : ℕ). n < last_tick) same c.in_ok-id.ensures.room in
     let ready : Rests s = subst Rests (sym c.self.view_is) c.requires.ready in
     let found : delays_of s.events.fates fate ≡ fate_in s.events.fates (length s.flight) =
-    fate_found c.fates.result.now s.events.fates id (length s.flight) fate c.fates.ensures here c.place_of-fate.ensures in
+    fate_found s.events.fates s.events.fates id (length s.flight) fate refl here c.place_of-fate.ensures in
+    let calm : (plan_of s.events).sends (length s.flight) ≡ false = subst (λ (v : SegmentView). (plan_of v.events).sends (length v.flight) ≡ false) (sym c.self.view_is) c.requires.calm in
     subst IsSound (sym (sent_is s c.args.packet fate c.push_both.new.flight.items c.push_both.new.kept.items id c.in_ok-push_both.ensures.flight c.in_ok-push_both.ensures.kept here))
-    (sound_sent s c.args.packet fate c.self.invariant ready room found)
+    (sound_sent s c.args.packet fate c.self.invariant ready room found calm)
 
 pub returns-clause-ok : goal.returns-clause-ok
 returns-clause-ok c =

@@ -1,9 +1,7 @@
-use Rattle.std.proofs.Common.{◌≡◌, ℕ, List, Option, Some, None, Err, sym, ◌∙◌, ap, subst, arith}
+use Rattle.std.proofs.Common.{ℕ, List, Option, None, sym, ◌∙◌, ap, subst, arith}
 use Rattle.sd_outside.specs.declared.packet.Packet.{Packet}
-use Rattle.sd_link.specs.declared.link.LinkError.TheVariants.{NoMemory, Failed}
-use Rattle.sd_link.specs.Link.{Moves, Receives}
-use Rattle.sd_link.specs.Steps.{Step, History}
-use Rattle.sd_segment.specs.Segment.{SegmentView, history_of}
+use Rattle.sd_link.specs.Steps.{Step}
+use Rattle.sd_segment.specs.Segment.{SegmentView}
 use Rattle.sd_segment.specs.Passing.{Waits, HandsOut}
 use Rattle.sd_segment.proofs.Waiting.{waits_more, receives_packet, waits_if, receives_none, receives_err, receives_failed}
 use Rattle.sd_segment.proofs.segment.Segment.receive.Goals as goal
@@ -60,6 +58,7 @@ waiting-preserved c =
       tick = omega (arith, e.tick, c.hand_out.ensures.tick, c.waiting.invariant.tick);
       faults = e.passed.1.faults ∙ ap (λ (v : SegmentView). v.faults) h.0 ∙ c.waiting.invariant.faults;
       handed = c.advance.ensures.handed ∙ ap (λ (v : SegmentView). v.handed) h.0 ∙ c.waiting.invariant.handed;
+      calls = c.advance.ensures.calls ∙ ap (λ (v : SegmentView). v.calls) h.0 ∙ c.waiting.invariant.calls;
     }
 
 pub returns-in-Err-fail-clause-told : goal.returns-in-Err-fail-clause-told

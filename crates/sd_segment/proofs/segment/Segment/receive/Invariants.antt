@@ -13,6 +13,7 @@ invariant-waiting l = record {
   tick : l.initial.self.tick ≤ l.self.tick;
   faults : l.self.faults ≡ l.initial.self.faults;
   handed : l.self.handed ≡ l.initial.self.handed;
+  calls : l.self.calls ≡ l.initial.self.calls;
 }
 
 abbrev pub decreases-waiting : goal.decreases-waiting

@@ -1,4 +1,4 @@
-use Rattle.std.proofs.Common.{◌≡◌, sym, ◌∙◌}
+use Rattle.std.proofs.Common.{sym, ◌∙◌}
 use Rattle.sd_segment.proofs.SessionTurns.{rest_where}
 use Rattle.sd_segment.proofs.Waiting.{serves_turns}
 use Rattle.sd_segment.proofs.segment.Segment.send_due.Goals as goal

@@ -1,4 +1,4 @@
-use Rattle.std.proofs.Common.{◌≡◌, ℕ, ◌<◌, [], ◌∷◌, ◌++◌, List, Some, length, ◌∙◌, sym, ap, subst, rules}
+use Rattle.std.proofs.Common.{◌≡◌, ℕ, ◌<◌, [], ◌∷◌, ◌++◌, List, Some, length, ◌∙◌, refl, sym, ap, subst, rules}
 use Rattle.std.specs.Prelude.{slice_get}
 use Rattle.sd_config.specs.Events.{fate_in}
 use Rattle.sd_link.specs.Link.{last_tick}
@@ -47,7 +47,7 @@ invariant_of-self-2 c =
     let next : slice_get s.to_server 0 ≡ Some id = subst (λ (v : SegmentView). slice_get v.to_server 0 ≡ Some id) (sym c.self.view_is) c.requires.next in
     let at : slice_get s.flight id ≡ Some f = found_in c.as_slice-flight.result.now s.flight id f (c.as_slice-flight.ensures.value ∙ c.reserve_both.ensures.flight) (coming_inside s (goes_to_server s.config) id (coming_to_server s id c.self.invariant next)) c.index-flight-id.is in
     let found : delays_of s.events.fates fate ≡ fate_in s.events.fates (length s.flight) =
-    fate_found c.fates.result.now s.events.fates first (length s.flight) fate c.fates.ensures here c.place_of-fate.ensures in
+    fate_found s.events.fates s.events.fates first (length s.flight) fate refl here c.place_of-fate.ensures in
     let out : packets ≡ out_of s.config s.tick s.server f.packet = subst (λ (x : Flown). packets ≡ out_of s.config s.tick s.server x.packet) (sym c.index-flight-id.is) e.out in
     let server : CalmView = record { config = s.config; part = part } in
     let becomes : c.serve.new.self ≡ server = subst (λ (x : Flown). c.serve.new.self ≡ record { config = s.config; part = next_of s.config s.tick s.server x.packet }) (sym c.index-flight-id.is) e.next in

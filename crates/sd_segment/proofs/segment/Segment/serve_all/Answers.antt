@@ -7,6 +7,7 @@ loop-id-preserved c = record {
   moves = serves_more c.args.self.now c.loop-id.self c.serve.new.self c.in-Some.id c.loop-id.invariant.moves c.in_ok-serve.ensures.ok;
   tick = c.serve.ensures.tick ∙ c.loop-id.invariant.tick;
   handed = c.serve.ensures.handed ∙ c.loop-id.invariant.handed;
+  calls = c.serve.ensures.calls ∙ c.loop-id.invariant.calls;
 }
 
 pub returns-clause-ready : goal.returns-clause-ready

@@ -7,6 +7,7 @@ invariant-loop-id l = record {
   moves : Serves l.initial.self l.self;
   tick : l.self.tick ≡ l.initial.self.tick;
   handed : l.self.handed ≡ l.initial.self.handed;
+  calls : l.self.calls ≡ l.initial.self.calls;
 }
 
 abbrev pub decreases-loop-id : goal.decreases-loop-id

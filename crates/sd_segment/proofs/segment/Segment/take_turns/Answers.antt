@@ -1,13 +1,11 @@
-use Rattle.std.proofs.Common.{◌≡◌, ℕ, ◌+◌, ◌≤◌, [], List, ◌++◌, length, map, ◌∙◌, sym, ap, subst, arith}
+use Rattle.std.proofs.Common.{◌≡◌, ◌+◌, ◌≤◌, [], List, ◌++◌, length, map, ◌∙◌, sym, ap, subst, arith}
 use Rattle.std.specs.List.{flat_map}
 use Rattle.sd_outside.specs.declared.packet.Packet.{Packet}
-use Rattle.sd_config.specs.declared.events.Fate.{Fate}
-use Rattle.sd_link.specs.World.{Flying, Server, flying}
+use Rattle.sd_link.specs.World.{Server, flying}
 use Rattle.sd_link.specs.Link.{last_tick}
 use Rattle.sd_server.specs.declared.ticking.Due.{Due}
 use Rattle.sd_server.specs.Ticks.{sent_at, dues}
 use Rattle.sd_segment.specs.declared.flown.Flown.{Flown}
-use Rattle.sd_segment.specs.declared.flown.Kept.{Kept}
 use Rattle.sd_segment.specs.Flight.{flying_of, AllFated}
 use Rattle.sd_segment.specs.Kept.{turns_kept}
 use Rattle.sd_segment.specs.Inside.{view_of}
@@ -38,7 +36,7 @@ invariant_of-self-2 c =
     let kept = c.push_turns.ensures ∙ (λ i. (c.reserve_both.ensures.kept i) ++ turns_kept s.tick (here i) (turns i)) in
     let room : length s.flight + length (dues s.config s.tick s.server.sessions) ≤ last_tick = omega (arith, c.in_ok-first.ensures.room, ap (λ (l : List Flown). length l) c.as_slice.ensures.value, ap (λ (l : List Due). length l) turns) in
     let fated : AllFated s.events.fates (length s.flight) more =
-    subst (λ (l : List Fate). AllFated l (length s.flight) more) c.fates-fates.ensures (subst (λ (l : List Flown). AllFated c.fates-fates.result.now (length l) more) c.reserve_both.ensures.flight flies.fated) in
+    subst (λ (l : List Flown). AllFated s.events.fates (length l) more) c.reserve_both.ensures.flight flies.fated in
     subst IsSound (sym (turns_is s c.tick.new.self c.push_packets.new.flight.items more c.push_turns.new.kept.items c.in_ok-packets.ensures.next added kept))
     (sound_turns s more c.self.invariant served c.in_ok-packets.ensures.ascending sent room fated)
 

@@ -1,5 +1,5 @@
 use Rattle.std.proofs.Common.{◌≡◌, [], subst}
-use Rattle.sd_link.specs.Lawful.{IsFrontOf}
+use Rattle.sd_outside.specs.Streams.{IsPrefixOf}
 use Rattle.sd_link.specs.Link.{NothingWaits}
 use Rattle.sd_link.specs.Printing.{record_text}
 use Rattle.sd_link.specs.Steps.{whole_record}
@@ -12,6 +12,6 @@ pub returns-clause-settled : goal.returns-clause-settled
 returns-clause-settled c =
     subst (λ (v : SegmentView). v.to_client ≡ [] → NothingWaits (history_of v)) c.self.view_is (settled_of (view_of c.self.inside) c.self.invariant)
 
-pub returns-clause-front : goal.returns-clause-front
-returns-clause-front c =
-    subst (λ (v : SegmentView). IsFrontOf (text_drained v) (record_text (whole_record (history_of v)))) c.self.view_is (drained_front (view_of c.self.inside) c.self.invariant)
+pub returns-clause-prefix : goal.returns-clause-prefix
+returns-clause-prefix c =
+    subst (λ (v : SegmentView). IsPrefixOf (text_drained v) (record_text (whole_record (history_of v)))) c.self.view_is (drained_front (view_of c.self.inside) c.self.invariant)
