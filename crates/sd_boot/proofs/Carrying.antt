@@ -1,7 +1,7 @@
 -- From what was read to what the source told, for a program that owes P.
 use Rattle.std.proofs.Common.{◌≡◌, ℕ, ◌<◌, List, [], length, Option, Some, None, Result, Ok, Err, refl, subst, inl, inr}
 use Rattle.std.specs.Prelude.{IfOk, IfSome}
-use Rattle.sd_link.specs.Lawful.{IsFrontOf}
+use Rattle.sd_outside.specs.Streams.{IsPrefixOf}
 use Rattle.sd_script.specs.Limits.{input_limit}
 use Rattle.sd_streams.proofs.Gaining.{gains_nothing}
 use Rattle.sd_boot.specs.declared.status.Ended.{Ended}
@@ -13,7 +13,7 @@ use Rattle.sd_streams.specs.Writing.{GainsSome, Writes}
 
 module _ (P : Result Ended Stop → List ℕ → List ℕ → Type 0) where
   -- what a front that passes the limit is owed, the whole is
-  pub carried : (r : Result Ended Stop) → ((text all out : List ℕ) → IsFrontOf text all → input_limit < length text → P r text out → P r all out)
+  pub carried : (r : Result Ended Stop) → ((text all out : List ℕ) → IsPrefixOf text all → input_limit < length text → P r text out → P r all out)
       → (told left : Option (List ℕ)) (text : List ℕ) (old new : Option (List ℕ)) → IsRead told left text → GainsSome old new (P r text) → Writes told old new (P r)
   carried r alike None left text old new read gained = tt
   carried r alike (Some all) left text old new (inl whole) gained = subst (λ (t : List ℕ). GainsSome old new (P r t)) whole.0 gained

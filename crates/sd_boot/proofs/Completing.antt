@@ -15,7 +15,8 @@ use Rattle.sd_config.proofs.Lists.{all_split}
 use Rattle.sd_link.specs.World.{World, start}
 use Rattle.sd_link.specs.Steps.{Step, Send, Get, Entry, Got, after, entries_of, run, record_of, AllAllowed, goes_to_client}
 use Rattle.sd_link.specs.Parts.{sends_in, got_in, ticks_in, fails_in}
-use Rattle.sd_link.specs.Lawful.{IsLawful, AllInTurn, InTurn, AllGot, Settles, SendsSettled, IsFrontOf, to_client, id_at, got_at, due_to_client}
+use Rattle.sd_outside.specs.Streams.{IsPrefixOf}
+use Rattle.sd_link.specs.Lawful.{IsLawful, AllInTurn, InTurn, AllGot, Settles, SendsSettled, to_client, id_at, got_at, due_to_client}
 use Rattle.sd_link.proofs.Histories.{run-append, allowed-split, record-append, sends-append, got-append, ticks-append}
 use Rattle.sd_script.specs.declared.script.Script.{Script}
 use Rattle.sd_config.specs.declared.command.Command.{Command}
@@ -25,7 +26,7 @@ use Rattle.sd_config.specs.declared.told.Told.TheVariants.{AddrOk, AddrTimeout, 
 use Rattle.sd_link.specs.Tries.{AreUnmatched, RepliesAtOnce, beyond}
 use Rattle.sd_claims.specs.Rarp.{Learned, rarp_hearing, learned_from}
 use Rattle.sd_claims.specs.Booting.{Counts, LearnsAddress, first_counts}
-use Rattle.sd_claims.specs.Causes.{Cause, addr_ok, addr_timeout, addr_flood, boot_unbuilt, boot_timeout_rarp, boot_timeout_tftp, boot_timeout_call, boot_flood_rarp, boot_flood_tftp, boot_flood_call, boot_denied, boot_refused, boot_no_port, boot_too_large, wait_ok, wait_flood, addr_linkfault, boot_linkfault, wait_linkfault, AddressTimedOut, AddressFlooded, faults_told}
+use Rattle.sd_claims.specs.Causes.{Cause, addr_ok, addr_timeout, addr_flood, addr_linkfault, boot_timeout_rarp, boot_flood_rarp, boot_linkfault_rarp, boot_timeout_tftp, boot_flood_tftp, boot_linkfault_tftp, boot_refused, boot_too_large, boot_calls, wait_ok, wait_flood, wait_linkfault, AddressTimedOut, AddressFlooded, faults_told}
 use Rattle.sd_claims.specs.Waiting.{Waited, WaitFlooded}
 use Rattle.sd_claims.specs.Transcript.{Done, AllCaused}
 use Rattle.sd_claims.specs.Ending.{Ends, AllEnd}
@@ -50,7 +51,7 @@ got-then t xs id =
     flat_map-append (λ (e : Entry). id_at t (to_client e)) xs (Got t id ∷ []) ∙ ap (λ (b : Bool). got_at t xs ++ (cond b (id ∷ []) [] ++ [])) now
 
 -- a front that is as long is the whole
-whole_front : (front due : List ℕ) → IsFrontOf front due → length front ≡ length due → front ≡ due
+whole_front : (front due : List ℕ) → IsPrefixOf front due → length front ≡ length due → front ≡ due
 whole_front front due ([], is) wide = sym (append-nil front) ∙ is
 whole_front front due (x ∷ rest, is) wide = absurd (omega (arith, wide, ap length is, length-append front (x ∷ rest)))
 
@@ -101,7 +102,7 @@ module _ (c : Config) (is : IsConfig c) where
   last_here w entries t id packet turn at none =
       let now = got-then w.tick entries id in
       whole_front (got_at w.tick (entries ++ Got w.tick id ∷ [])) (due_to_client c plain w)
-      (subst (λ (l : List ℕ). IsFrontOf l (due_to_client c plain w)) (sym now) turn.1)
+      (subst (λ (l : List ℕ). IsPrefixOf l (due_to_client c plain w)) (sym now) turn.1)
       (omega (arith, at.waiting, none, due_length (goes_to_client c) w.tick w.flight))
 
   last_settles : (w : World) (entries : List Entry) (t : Stages) (steps : List Step) (id : ℕ) (packet : Packet) → AllInTurn c plain w entries (steps ++ Get id packet ∷ [])
@@ -194,26 +195,23 @@ module _ (c : Config) (is : IsConfig c) where
         let f = follow_silent silent in
         omega (arith, caused.many, pause_few s f.t part rests f.goes silent)
 
-    next : (n : Counts) (command : Command) (answer : Told) → command ≢ Boot → fails_in part ≡ faults_told answer → Cause settled_by c n command answer part → Ends c plain w entries answer part → Next w entries answer part
-    next n _ _ other fails (addr_ok learned _ caused) ended = address_next learned caused ended
-    next n _ _ other fails (addr_timeout _ caused) ended = absurd (no_timeout caused ended)
-    next n _ _ other fails (addr_flood _ caused) ended = absurd (no_flood caused ended)
-    next n _ _ other fails (boot_unbuilt program port _ some caused) ended = absurd (other refl)
-    next n _ _ other fails (boot_timeout_rarp _ caused) ended = absurd (other refl)
-    next n _ _ other fails (boot_timeout_tftp _ caused) ended = absurd (other refl)
-    next n _ _ other fails (boot_timeout_call program step _ caused) ended = absurd (other refl)
-    next n _ _ other fails (boot_flood_rarp _ caused) ended = absurd (other refl)
-    next n _ _ other fails (boot_flood_tftp _ caused) ended = absurd (other refl)
-    next n _ _ other fails (boot_flood_call program step _ caused) ended = absurd (other refl)
-    next n _ _ other fails (boot_denied program step code _ caused) ended = absurd (other refl)
-    next n _ _ other fails (boot_refused code _ caused) ended = absurd (other refl)
-    next n _ _ other fails (boot_no_port program _ caused) ended = absurd (other refl)
-    next n _ _ other fails (boot_too_large size _ caused) ended = absurd (other refl)
-    next n _ _ other fails (wait_ok ticks _ caused) ended = pause_next ticks caused ended
-    next n _ _ other fails (wait_flood ticks _ caused) ended = absurd (no_wait_flood ticks caused)
-    next n _ _ other fails (addr_linkfault _ h) ended = absurd (omega (arith, fails, calm_fails part calm))
-    next n _ _ other fails (boot_linkfault step _ h) ended = absurd (other refl)
-    next n _ _ other fails (wait_linkfault ticks _ h) ended = absurd (omega (arith, fails, calm_fails part calm))
+    next : (n after : Counts) (command : Command) (answer : Told) → command ≢ Boot → fails_in part ≡ faults_told answer → Cause settled_by c n command answer after part → Ends c plain w entries answer part → Next w entries answer part
+    next n _ _ _ other fails (addr_ok learned _ caused) ended = address_next learned caused ended
+    next n _ _ _ other fails (addr_timeout _ caused) ended = absurd (no_timeout caused ended)
+    next n _ _ _ other fails (addr_flood _ caused) ended = absurd (no_flood caused ended)
+    next n _ _ _ other fails (addr_linkfault _ h) ended = absurd (omega (arith, fails, calm_fails part calm))
+    next n _ _ _ other fails (boot_timeout_rarp _ h) ended = absurd (other refl)
+    next n _ _ _ other fails (boot_flood_rarp _ h) ended = absurd (other refl)
+    next n _ _ _ other fails (boot_linkfault_rarp _ h) ended = absurd (other refl)
+    next n _ _ _ other fails (boot_timeout_tftp _ h) ended = absurd (other refl)
+    next n _ _ _ other fails (boot_flood_tftp _ h) ended = absurd (other refl)
+    next n _ _ _ other fails (boot_linkfault_tftp _ h) ended = absurd (other refl)
+    next n _ _ _ other fails (boot_refused code _ h) ended = absurd (other refl)
+    next n _ _ _ other fails (boot_too_large size _ h) ended = absurd (other refl)
+    next n _ _ _ other fails (boot_calls program end _ _ _ is h) ended = absurd (other refl)
+    next n _ _ _ other fails (wait_ok ticks _ caused) ended = pause_next ticks caused ended
+    next n _ _ _ other fails (wait_flood ticks _ caused) ended = absurd (no_wait_flood ticks caused)
+    next n _ _ _ other fails (wait_linkfault ticks _ h) ended = absurd (omega (arith, fails, calm_fails part calm))
 
   -- ---- all commands
 
@@ -225,8 +223,8 @@ module _ (c : Config) (is : IsConfig c) where
       let q = all_split IsCalmStep d.part (parts_of ds) calm in
       let a = allowed-split c w d.part (parts_of ds) allowed in
       let t = in_turn-split c plain w entries d.part (parts_of ds) turns in
-      let n = next settled_by patient w entries s d.part at rests settled q.0 a.0 t.0 m k d.answer others.0 caused.0.fails caused.0.cause ended.0 in
-      (n.ok, all_ok (beyond settled_by d.part) patient (run c w d.part) (entries ++ record_of c w d.part) n.t d.counts ks ds others.1 n.stands n.rests n.settled q.1 a.1 t.1 caused.2 ended.1)
+      let n = next settled_by patient w entries s d.part at rests settled q.0 a.0 t.0 m d.counts k d.answer others.0 caused.0.fails caused.0.cause ended.0 in
+      (n.ok, all_ok (beyond settled_by d.part) patient (run c w d.part) (entries ++ record_of c w d.part) n.t d.counts ks ds others.1 n.stands n.rests n.settled q.1 a.1 t.1 caused.1 ended.1)
 
 -- all answers of a calm script are ok
 pub complete : (settled_by : List Step → Type 0) (s : Script) → IsConfig s.config → (commands : List Command) (done : List Done) (more : List Step) → IsLawful s.config (plan_of s.events) (parts_of done ++ more)

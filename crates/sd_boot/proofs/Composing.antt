@@ -25,7 +25,7 @@ use Rattle.sd_claims.specs.Booting.{first_counts}
 use Rattle.sd_claims.specs.Transcript.{Done, AllCaused}
 use Rattle.sd_claims.specs.Ending.{AllEnd}
 use Rattle.sd_claims.specs.Session.{parts_of, IsSession, IsCutSession}
-use Rattle.sd_claims.specs.Headline.{AreDone, IsCalm, Plays, PlaysFront, written}
+use Rattle.sd_claims.specs.Headline.{AreDone, IsCalm, Plays, PlaysPrefix, written}
 use Rattle.sd_rpc_retry.specs.Lasting.{Lasts}
 use Rattle.sd_boot_chain.specs.Durations.{most_session_ticks}
 use Rattle.sd_streams.proofs.Gaining.{gains_nothing}
@@ -103,34 +103,37 @@ done_so s is commands done more law rests caused ended others = record {
 
 -- ---- the whole
 
-pub played : (s : Script) (client : ClientConfig) (before after : Option (List ℕ)) (new : History) → IsConfig s.config → IsEvents s.config s.events → IsFor s.config client → LawfulHistory new
-    → Moves (Some (first_history s)) (Some new) (λ old part. IsFor old.config client → IsSession s.commands before after old part)
+pub played : (s : Script) (client : ClientConfig) (drained : List ℕ) (before after : Option (List ℕ)) (new : History) → IsConfig s.config → IsEvents s.config s.events → IsFor s.config client → LawfulHistory new
+    → drained ≡ record_text (whole_record (first_history s))
+    → Moves (Some (first_history s)) (Some new) (λ old part. IsFor old.config client → IsSession s.commands drained before after old part)
     → (out : List ℕ) × Gains before after out × Plays s out
-played s client before after new is are is_for law moved =
+played s client drained before after new is are is_for law all moved =
     let part = moved.0 in
     let session = moved.2 is_for in
     let whole : part ≡ parts_of session.done ++ [] = session.cut ∙ sym (append-nil (parts_of session.done)) in
     let lawful = subst (λ (l : List Step). IsLawful s.config (plan_of s.events) l) whole (lawful_part s new part moved.1 law) in (
       written s session.done,
-      session.text,
+      session.text all,
       record { done = session.done; all = done_so s is s.commands session.done [] lawful (rests_so s session.done are session.rests) session.caused session.ended (λ calm. calm.no_boot); whole = refl },
     )
 
-pub cut_short : (s : Script) (client : ClientConfig) (before after : Option (List ℕ)) (new : History) → IsConfig s.config → IsEvents s.config s.events → IsFor s.config client → LawfulHistory new
-    → Moves (Some (first_history s)) (Some new) (λ old part. IsFor old.config client → IsCutSession s.commands before after old part)
-    → (out : List ℕ) × Gains before after out × PlaysFront s out
-cut_short s client before after new is are is_for law moved =
+pub cut_short : (s : Script) (client : ClientConfig) (drained : List ℕ) (before after : Option (List ℕ)) (new : History) → IsConfig s.config → IsEvents s.config s.events → IsFor s.config client → LawfulHistory new
+    → drained ≡ record_text (whole_record (first_history s))
+    → Moves (Some (first_history s)) (Some new) (λ old part. IsFor old.config client → IsCutSession s.commands drained before after old part)
+    → (out : List ℕ) × Gains before after out × PlaysPrefix s out
+cut_short s client drained before after new is are is_for law all moved =
     let part = moved.0 in
     let session = moved.2 is_for in
+    let gained = session.text all in
     let lawful = subst (λ (l : List Step). IsLawful s.config (plan_of s.events) l) session.cut (lawful_part s new part moved.1 law) in (
-      session.front,
-      session.text,
+      gained.0,
+      gained.2,
       record {
         count = session.count;
         done = session.done;
         more = session.more;
         some = done_so s is (take session.count s.commands) session.done session.more lawful (rests_so s session.done are session.rests) session.caused session.ended (λ calm. all_taken _ session.count s.commands calm.no_boot);
-        front = session.short;
+        prefix = gained.1;
       },
     )
 
@@ -159,27 +162,31 @@ lawful_start : (s : Script) → IsLawful s.config (plan_of s.events) []
 lawful_start s = record { orderly = record { allowed = tt; in_turn = tt; stops = tt; strays = tt; sends = tt; faults = omega arith }; receives = omega arith }
 
 -- nothing was done
-pub unplayed : (s : Script) (told : Option (List ℕ)) → IsEvents s.config s.events → GainsSome told told (PlaysFront s)
+pub unplayed : (s : Script) (told : Option (List ℕ)) → IsEvents s.config s.events → GainsSome told told (PlaysPrefix s)
 unplayed s told are = (
   [],
   gains_nothing told,
-  record { count = 0; done = []; more = []; some = record { lawful = lawful_start s; rests = rests_first s are; machine = tt; caused = tt; complete = λ calm. tt }; front = ([], refl) },
+  record { count = 0; done = []; more = []; some = record { lawful = lawful_start s; rests = rests_first s are; machine = tt; caused = tt; complete = λ calm. tt }; prefix = ([], refl) },
 )
 
-pub play_done : (s : Script) (client : ClientConfig) (before after : Option (List ℕ)) (old new : History) (tick : ℕ) → IsConfig s.config → IsEvents s.config s.events → IsFor s.config client
+pub play_done : (s : Script) (client : ClientConfig) (drained : List ℕ) (before after : Option (List ℕ)) (old new : History) (tick : ℕ) → IsConfig s.config → IsEvents s.config s.events → IsFor s.config client
     → old ≡ first_history s → OrderlyHistory new → PlannedHistory new ⊎ (tick ≡ last_tick) → (world_of new).tick ≡ tick → Lasts most_session_ticks (Some old) (Some new)
-    → Moves (Some old) (Some new) (λ h part. IsFor h.config client → IsSession s.commands before after h part)
+    → drained ≡ record_text (whole_record old)
+    → Moves (Some old) (Some new) (λ h part. IsFor h.config client → IsSession s.commands drained before after h part)
     → GainsSome before after (Plays s)
-play_done s client before after old new tick is are is_for first orderly planned clock lasts moved =
+play_done s client drained before after old new tick is are is_for first orderly planned clock lasts all moved =
     let lasts_so = subst (λ (h : History). Lasts most_session_ticks (Some h) (Some new)) first lasts in
     let law = lawful_so s new tick orderly planned clock lasts_so in
-    played s client before after new is are is_for law (subst (λ (h : History). Moves (Some h) (Some new) (λ h part. IsFor h.config client → IsSession s.commands before after h part)) first moved)
+    played s client drained before after new is are is_for law (subst (λ (h : History). drained ≡ record_text (whole_record h)) first all)
+    (subst (λ (h : History). Moves (Some h) (Some new) (λ h part. IsFor h.config client → IsSession s.commands drained before after h part)) first moved)
 
-pub play_cut : (s : Script) (client : ClientConfig) (before after : Option (List ℕ)) (old new : History) (tick : ℕ) → IsConfig s.config → IsEvents s.config s.events → IsFor s.config client
+pub play_cut : (s : Script) (client : ClientConfig) (drained : List ℕ) (before after : Option (List ℕ)) (old new : History) (tick : ℕ) → IsConfig s.config → IsEvents s.config s.events → IsFor s.config client
     → old ≡ first_history s → OrderlyHistory new → PlannedHistory new ⊎ (tick ≡ last_tick) → (world_of new).tick ≡ tick → Lasts most_session_ticks (Some old) (Some new)
-    → Moves (Some old) (Some new) (λ h part. IsFor h.config client → IsCutSession s.commands before after h part)
-    → GainsSome before after (PlaysFront s)
-play_cut s client before after old new tick is are is_for first orderly planned clock lasts moved =
+    → drained ≡ record_text (whole_record old)
+    → Moves (Some old) (Some new) (λ h part. IsFor h.config client → IsCutSession s.commands drained before after h part)
+    → GainsSome before after (PlaysPrefix s)
+play_cut s client drained before after old new tick is are is_for first orderly planned clock lasts all moved =
     let lasts_so = subst (λ (h : History). Lasts most_session_ticks (Some h) (Some new)) first lasts in
     let law = lawful_so s new tick orderly planned clock lasts_so in
-    cut_short s client before after new is are is_for law (subst (λ (h : History). Moves (Some h) (Some new) (λ h part. IsFor h.config client → IsCutSession s.commands before after h part)) first moved)
+    cut_short s client drained before after new is are is_for law (subst (λ (h : History). drained ≡ record_text (whole_record h)) first all)
+    (subst (λ (h : History). Moves (Some h) (Some new) (λ h part. IsFor h.config client → IsCutSession s.commands drained before after h part)) first moved)

@@ -2,10 +2,11 @@
 use Rattle.std.proofs.Common.{◌≡◌, ◌⊎◌, ℕ, ◌+◌, ◌<◌, ◌≤◌, ◌==◌, Bool, true, false, cond, List, [], ◌∷◌, ◌++◌, length, refl, sym, ◌∙◌, ap, subst, arith, length-append, inl, inr}
 use Rattle.std.proofs.lemmas.List.{append-nil}
 use Rattle.std.specs.List.{concat, onto_first}
-use Rattle.sd_link.specs.Lawful.{IsFrontOf}
+use Rattle.sd_outside.specs.Streams.{IsPrefixOf}
 use Rattle.sd_script.specs.declared.script.Script.{Script}
 use Rattle.sd_script.specs.Limits.{input_limit}
-use Rattle.sd_script.specs.Grammar.{lines, IsScript, IsFirstOutside, IsRefusedLine}
+use Rattle.sd_outside.specs.Lines.{lines}
+use Rattle.sd_script.specs.Grammar.{IsScript, IsFirstOutside, IsRefusedLine}
 use Rattle.sd_script.proofs.OneScript.{lines_joined}
 
 -- the lines go on with the text: the last may grow, and more may follow
@@ -65,7 +66,7 @@ pub no_script : (text : List ℕ) (s : Script) → input_limit < length text →
 no_script text s long is = omega (arith, long, is.says.within, ap length (lines_joined text))
 
 -- a front that passes the limit is refused where the whole is
-pub refused_alike : (front whole : List ℕ) (n : ℕ) → input_limit < length front → IsFrontOf front whole → IsFirstOutside front n → IsFirstOutside whole n
+pub refused_alike : (front whole : List ℕ) (n : ℕ) → input_limit < length front → IsPrefixOf front whole → IsFirstOutside front n → IsFirstOutside whole n
 refused_alike front whole n long is (inr early) = absurd (omega (arith, long, early.says.within, ap length (lines_joined front)))
 refused_alike front whole n long is (inl refused) =
     let rest = is.0 in

@@ -26,7 +26,8 @@ use Rattle.sd_services.specs.NfsCalls.{change_of}
 use Rattle.sd_services.specs.Reply.{rarp_answer, as_frame, out_of, next_of}
 use Rattle.sd_link.specs.Steps.{Step, Tick, Send, Serve, Settle, Data, End, Get, Entry, Sent, Served, Got, after, served, replies_to, sent_from, entries_of, run, record_of, Allowed, AllAllowed, goes_to_server, goes_to_client, reaches_server, reaches_client}
 use Rattle.sd_link.specs.Parts.{sends_in, got_in}
-use Rattle.sd_link.specs.Lawful.{InTurn, AllInTurn, AllGot, SendsSettled, IsFrontOf, to_server, to_client, id_at, served_at, got_at, due, due_to_server, due_to_client, copies_at}
+use Rattle.sd_outside.specs.Streams.{IsPrefixOf}
+use Rattle.sd_link.specs.Lawful.{InTurn, AllInTurn, AllGot, SendsSettled, to_server, to_client, id_at, served_at, got_at, due, due_to_server, due_to_client, copies_at}
 use Rattle.sd_claims.specs.Rarp.{Learned, rarp_request, learned_from, learned_in, broadcast_mac}
 use Rattle.sd_boot.proofs.Stages.{Stages, Goes, AllGo}
 use Rattle.sd_boot.proofs.Unplanned.{IsCalmStep}
@@ -273,7 +274,7 @@ module _ (c : Config) (is : IsConfig c) where
   got_past later tick id lt = let no : (tick == later) ≡ false = grind arith in ap (λ (b : Bool). length (cond b (id ∷ []) [] ++ [])) no
 
   -- the next in turn is one of those that are left
-  one_left : (xs due : List ℕ) (id n count : ℕ) → IsFrontOf (xs ++ id ∷ []) due → length xs + n ≡ count → length due ≡ count → (left : ℕ) × (left + 1 ≡ n)
+  one_left : (xs due : List ℕ) (id n count : ℕ) → IsPrefixOf (xs ++ id ∷ []) due → length xs + n ≡ count → length due ≡ count → (left : ℕ) × (left + 1 ≡ n)
   one_left xs due id n count front is wide =
       (length front.0, omega (arith, ap length front.1, length-append (xs ++ id ∷ []) front.0, length-append xs (id ∷ []), is, wide))
 

@@ -3,9 +3,9 @@ use Rattle.std.proofs.Common.{◌≡◌, ℕ, zero, suc, ◌<◌, ◌≤◌, Lis
 use Rattle.std.specs.Prelude.{IfOk, IfSome, IsOk, IsErrOf}
 use Rattle.std.specs.Result.{result_ok}
 use Rattle.sd_config.specs.declared.config.SwapLine.{SwapLine}
-use Rattle.sd_link.specs.Lawful.{IsFrontOf}
+use Rattle.sd_outside.specs.Streams.{IsPrefixOf}
 use Rattle.sd_script.specs.Limits.{input_limit}
-use Rattle.sd_streams.specs.Writing.{GainsFront, GainsSome}
+use Rattle.sd_streams.specs.Writing.{GainsPrefix, GainsSome}
 use Rattle.sd_streams.proofs.Gaining.{gains_nothing}
 use Rattle.sd_stable_disk.specs.Image.{opens, held, holds, rounded, total, new_image, zero_files, AreSizes}
 use Rattle.sd_stable_disk.specs.declared.errors.OpenError.{OpenError}
@@ -16,7 +16,7 @@ use Rattle.sd_boot.specs.declared.status.Ended.{Ended}
 use Rattle.sd_boot.specs.declared.status.Ended.TheVariants.{Done, Refused, Usage, NoImage}
 use Rattle.sd_boot.specs.declared.status.Stop.{Stop}
 use Rattle.sd_boot.specs.declared.status.Stop.TheVariants.{SourceFault, SinkFault, NoMemory}
-use Rattle.sd_boot.specs.Images.{IsShownImage, IsImageRefusal, IsAnswer, IsAnswerFront, Answers, EndsSo, IsNewImage, swap_sizes, IsRefusalLine, files_text}
+use Rattle.sd_boot.specs.Images.{IsShownImage, IsImageRefusal, IsAnswer, IsAnswerPrefix, Answers, EndsSo, IsNewImage, swap_sizes, IsRefusalLine, files_text}
 use Rattle.sd_boot.proofs.Cutting.{no_script}
 use Rattle.sd_boot.proofs.Replaying.{refusal_alike}
 use Rattle.sd_boot.proofs.LongImages.{BothRefused, both_refused}
@@ -74,11 +74,11 @@ full Show Usage input out a = absurd a
 full Show NoImage input out a = inr a
 
 -- the sink failed on the way
-pub cut_answer : (word : ImageWord) (input out : List ℕ) (ended : Ended) (old new : Option (List ℕ)) (stop : Stop) → EndsSo word ended input out → GainsFront old new out
+pub cut_answer : (word : ImageWord) (input out : List ℕ) (ended : Ended) (old new : Option (List ℕ)) (stop : Stop) → EndsSo word ended input out → GainsPrefix old new out
     → (stop ≡ SourceFault → ⊥) → GainsSome old new (Answers word (Err stop) input)
 cut_answer word input out ended old new SourceFault a f never = absurd (never refl)
-cut_answer word input out ended old new SinkFault a f never = (f.0, f.2, inr (record { full = out; is = full word ended input out a; front = f.1 }))
-cut_answer word input out ended old new NoMemory a f never = (f.0, f.2, inr (record { full = out; is = full word ended input out a; front = f.1 }))
+cut_answer word input out ended old new SinkFault a f never = (f.0, f.2, inr (record { full = out; is = full word ended input out a; prefix = f.1 }))
+cut_answer word input out ended old new NoMemory a f never = (f.0, f.2, inr (record { full = out; is = full word ended input out a; prefix = f.1 }))
 
 pub not_the_source : (stop : Stop) → (IsErrOf {T = Unit {0}} (Err stop) SourceFault → ⊥) → stop ≡ SourceFault → ⊥
 not_the_source stop never is = never (ap Err is)
@@ -89,27 +89,27 @@ no_answer word input told = ([], gains_nothing told, inl refl)
 
 -- ---- an input that is cut behind the limit is answered as the whole is
 
-cut_off : (text all : List ℕ) → IsFrontOf text all → input_limit < length text → BothRefused text all
+cut_off : (text all : List ℕ) → IsPrefixOf text all → input_limit < length text → BothRefused text all
 cut_off text all front long = both_refused text front.0 all front.1 (omega (arith, long))
 
-shown_alike : (text all out : List ℕ) → IsFrontOf text all → input_limit < length text → IsShownImage text out → IsShownImage all out
+shown_alike : (text all out : List ℕ) → IsPrefixOf text all → input_limit < length text → IsShownImage text out → IsShownImage all out
 shown_alike text all out front long s = let b = cut_off text all front long in record { files = s.files; held = b.second ∙ sym b.first ∙ s.held; text = s.text }
 
-image_refusal_alike : (text all out : List ℕ) → IsFrontOf text all → input_limit < length text → IsImageRefusal text out → IsImageRefusal all out
+image_refusal_alike : (text all out : List ℕ) → IsPrefixOf text all → input_limit < length text → IsImageRefusal text out → IsImageRefusal all out
 image_refusal_alike text all out front long (inl (at, is, line)) = let b = cut_off text all front long in inl (at, b.second ∙ sym b.first ∙ is, line)
 image_refusal_alike text all out front long (inr (got, is, line)) = let b = cut_off text all front long in inr (got, b.second ∙ sym b.first ∙ is, line)
 
-answer_alike : (word : ImageWord) (text all out : List ℕ) → IsFrontOf text all → input_limit < length text → IsAnswer word text out → IsAnswer word all out
+answer_alike : (word : ImageWord) (text all out : List ℕ) → IsPrefixOf text all → input_limit < length text → IsAnswer word text out → IsAnswer word all out
 answer_alike Make text all out front long (inl made) = absurd (no_script text made.script long made.spelled)
 answer_alike Make text all out front long (inr refused) = inr (refusal_alike text all out front long refused)
 answer_alike Show text all out front long (inl shown) = inl (shown_alike text all out front long shown)
 answer_alike Show text all out front long (inr refused) = inr (image_refusal_alike text all out front long refused)
 
-front_alike : (word : ImageWord) (text all out : List ℕ) → IsFrontOf text all → input_limit < length text → IsAnswerFront word text out → IsAnswerFront word all out
+front_alike : (word : ImageWord) (text all out : List ℕ) → IsPrefixOf text all → input_limit < length text → IsAnswerPrefix word text out → IsAnswerPrefix word all out
 front_alike word text all out front long (inl none) = inl none
-front_alike word text all out front long (inr cut) = inr (record { full = cut.full; is = answer_alike word text all cut.full front long cut.is; front = cut.front })
+front_alike word text all out front long (inr cut) = inr (record { full = cut.full; is = answer_alike word text all cut.full front long cut.is; prefix = cut.prefix })
 
-pub alike : (word : ImageWord) (r : Result Ended Stop) (text all out : List ℕ) → IsFrontOf text all → input_limit < length text → Answers word r text out → Answers word r all out
+pub alike : (word : ImageWord) (r : Result Ended Stop) (text all out : List ℕ) → IsPrefixOf text all → input_limit < length text → Answers word r text out → Answers word r all out
 alike Make (Ok Done) text all out front long a = absurd (no_script text a.script long a.spelled)
 alike Make (Ok Refused) text all out front long a = refusal_alike text all out front long a
 alike Make (Ok Usage) text all out front long a = a

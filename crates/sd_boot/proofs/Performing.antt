@@ -79,7 +79,7 @@ module _ (q p : Program) (words : List (List ℕ)) (r : Result Ended Stop) (told
       no_image Show text out so = absurd so
       no_image Pack text out so = absurd so
       no_image ImageMake text out so = absurd so
-      no_image ImageShow text out so = inr (record { full = out; is = inr so; front = ([], append-nil out) })
+      no_image ImageShow text out so = inr (record { full = out; is = inr so; prefix = ([], append-nil out) })
 
   module _ (source_old source_new sink_old sink_new : ℕ) (read : IsErrOf r SourceFault → Rose source_old source_new) (write : IsErrOf r SinkFault → Rose sink_old sink_new)
       (calm_source : Rose source_old source_new → ⊥) (calm_sink : Rose sink_old sink_new → ⊥) where

@@ -1,13 +1,12 @@
 -- What a replay writes, by how each of its parts ended.
 use Rattle.std.proofs.Common.{◌≡◌, ℕ, ◌<◌, List, [], length, Option, Some, None, Result, Ok, Err, refl, sym, subst, inl, inr}
 use Rattle.std.specs.Prelude.{OnOk, OnErr, IfOk, IsErrOf, IfSome}
-use Rattle.sd_outside.specs.Streams.{Gains}
-use Rattle.sd_link.specs.Lawful.{IsFrontOf}
+use Rattle.sd_outside.specs.Streams.{Gains, IsPrefixOf}
 use Rattle.sd_script.specs.declared.script.Script.{Script}
 use Rattle.sd_script.specs.Limits.{input_limit}
 use Rattle.sd_script.specs.Grammar.{IsScript, IsFirstOutside}
-use Rattle.sd_claims.specs.Headline.{Plays, PlaysFront, IsRefusal, IsFront, refusal_line}
-use Rattle.sd_streams.specs.Writing.{GainsFront, GainsSome, Writes}
+use Rattle.sd_claims.specs.Headline.{Plays, PlaysPrefix, IsRefusal, IsOutputPrefix, refusal_line}
+use Rattle.sd_streams.specs.Writing.{GainsPrefix, GainsSome, Writes}
 use Rattle.sd_streams.proofs.Gaining.{gains_nothing}
 use Rattle.sd_boot.specs.declared.status.Ended.{Ended}
 use Rattle.sd_boot.specs.declared.status.Ended.TheVariants.{Done, Refused, Usage, NoImage}
@@ -23,19 +22,19 @@ no_memory text told = ([], gains_nothing told, inl refl)
 
 -- the text was refused
 pub refused : (text : List ℕ) (n : ℕ) (old new : Option (List ℕ)) (r : Result Ended Stop) → IsFirstOutside text n
-    → OnOk r (Gains old new (refusal_line n)) → OnErr r (GainsFront old new (refusal_line n)) → IfOk r (λ ended. ended ≡ Refused) → (IsErrOf r SourceFault → ⊥)
+    → OnOk r (Gains old new (refusal_line n)) → OnErr r (GainsPrefix old new (refusal_line n)) → IfOk r (λ ended. ended ≡ Refused) → (IsErrOf r SourceFault → ⊥)
     → GainsSome old new (Replays r text)
 refused text n old new (Ok ended) first ok err is never =
     (refusal_line n, ok, subst (λ (e : Ended). Replays (Ok e) text (refusal_line n)) (sym is) (record { line = n; first = first; whole = refl }))
 refused text n old new (Err SourceFault) first ok err is never = absurd (never refl)
 refused text n old new (Err SinkFault) first ok err is never =
-    (err.0, err.2, inr (inr (record { full = refusal_line n; refusal = record { line = n; first = first; whole = refl }; front = err.1 })))
+    (err.0, err.2, inr (inr (record { full = refusal_line n; refusal = record { line = n; first = first; whole = refl }; prefix = err.1 })))
 refused text n old new (Err NoMemory) first ok err is never =
-    (err.0, err.2, inr (inr (record { full = refusal_line n; refusal = record { line = n; first = first; whole = refl }; front = err.1 })))
+    (err.0, err.2, inr (inr (record { full = refusal_line n; refusal = record { line = n; first = first; whole = refl }; prefix = err.1 })))
 
 -- the script was played
 pub played_text : (text : List ℕ) (script : Script) (old new : Option (List ℕ)) (r : Result Ended Stop) → IsScript text script
-    → OnOk r (GainsSome old new (Plays script)) → OnErr r (GainsSome old new (PlaysFront script)) → IfOk r (λ ended. ended ≡ Done) → (IsErrOf r SourceFault → ⊥)
+    → OnOk r (GainsSome old new (Plays script)) → OnErr r (GainsSome old new (PlaysPrefix script)) → IfOk r (λ ended. ended ≡ Done) → (IsErrOf r SourceFault → ⊥)
     → GainsSome old new (Replays r text)
 played_text text script old new (Ok ended) spelled ok err is never =
     (ok.0, ok.1, subst (λ (e : Ended). Replays (Ok e) text ok.0) (sym is) (record { script = script; spelled = spelled; plays = ok.2 }))
@@ -45,15 +44,15 @@ played_text text script old new (Err NoMemory) spelled ok err is never = (err.0,
 
 -- ---- from what was read to what the source told
 
-pub refusal_alike : (text all out : List ℕ) → IsFrontOf text all → input_limit < length text → IsRefusal text out → IsRefusal all out
+pub refusal_alike : (text all out : List ℕ) → IsPrefixOf text all → input_limit < length text → IsRefusal text out → IsRefusal all out
 refusal_alike text all out front long r = record { line = r.line; first = refused_alike text all r.line long front r.first; whole = r.whole }
 
-front_alike : (text all out : List ℕ) → IsFrontOf text all → input_limit < length text → IsFront text out → IsFront all out
+front_alike : (text all out : List ℕ) → IsPrefixOf text all → input_limit < length text → IsOutputPrefix text out → IsOutputPrefix all out
 front_alike text all out front long (inl none) = inl none
 front_alike text all out front long (inr (inl cut)) = absurd (no_script text cut.script long cut.spelled)
-front_alike text all out front long (inr (inr cut)) = inr (inr (record { full = cut.full; refusal = refusal_alike text all cut.full front long cut.refusal; front = cut.front }))
+front_alike text all out front long (inr (inr cut)) = inr (inr (record { full = cut.full; refusal = refusal_alike text all cut.full front long cut.refusal; prefix = cut.prefix }))
 
-alike : (r : Result Ended Stop) (text all out : List ℕ) → IsFrontOf text all → input_limit < length text → Replays r text out → Replays r all out
+alike : (r : Result Ended Stop) (text all out : List ℕ) → IsPrefixOf text all → input_limit < length text → Replays r text out → Replays r all out
 alike (Ok Done) text all out front long r = absurd (no_script text r.script long r.spelled)
 alike (Ok Refused) text all out front long r = refusal_alike text all out front long r
 alike (Ok Usage) text all out front long r = r

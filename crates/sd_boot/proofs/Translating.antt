@@ -3,11 +3,11 @@ use Rattle.std.proofs.Common.{◌≡◌, ℕ, ◌<◌, ◌≤◌, List, [], ◌�
 use Rattle.std.specs.Prelude.{◌⊎◌, IfOk, IfSome}
 use Rattle.std.specs.List.{concat}
 use Rattle.sd_text.specs.Texts.{Text}
-use Rattle.sd_link.specs.Lawful.{IsFrontOf}
+use Rattle.sd_outside.specs.Streams.{IsPrefixOf}
 use Rattle.sd_script.specs.Limits.{input_limit}
-use Rattle.sd_script.specs.Grammar.{lines}
+use Rattle.sd_outside.specs.Lines.{lines}
 use Rattle.sd_script.proofs.OneScript.{lines_joined}
-use Rattle.sd_streams.specs.Writing.{GainsFront, GainsSome, Writes}
+use Rattle.sd_streams.specs.Writing.{GainsPrefix, GainsSome, Writes}
 use Rattle.sd_streams.proofs.Gaining.{gains_nothing}
 use Rattle.sd_boot.specs.declared.packet_texts.Direction.{Direction}
 use Rattle.sd_boot.specs.declared.status.Ended.{Ended}
@@ -15,7 +15,7 @@ use Rattle.sd_boot.specs.declared.status.Ended.TheVariants.{Done, Refused, Usage
 use Rattle.sd_boot.specs.declared.status.Stop.{Stop}
 use Rattle.sd_boot.specs.declared.status.Stop.TheVariants.{SourceFault, SinkFault, NoMemory}
 use Rattle.sd_boot.specs.Input.{IsRead}
-use Rattle.sd_boot.specs.PacketTexts.{IsTranslated, IsTextRefusal, IsTextFront, Translates}
+use Rattle.sd_boot.specs.PacketTexts.{IsTranslated, IsTextRefusal, IsTextPrefix, Translates}
 use Rattle.sd_boot.proofs.Cutting.{Extends, extends, IsThere, there, concat-last}
 
 -- ---- from a text to what was written
@@ -31,16 +31,16 @@ full d text out Usage t = absurd t
 full d text out NoImage t = absurd t
 
 -- the sink failed on the way
-pub not_written : (d : Direction) (text out : Text) (ended : Ended) (old new : Option (List ℕ)) (stop : Stop) → Translates d (Ok ended) text out → GainsFront old new out
+pub not_written : (d : Direction) (text out : Text) (ended : Ended) (old new : Option (List ℕ)) (stop : Stop) → Translates d (Ok ended) text out → GainsPrefix old new out
     → (stop ≡ SourceFault → ⊥) → GainsSome old new (Translates d (Err stop) text)
 not_written d text out ended old new SourceFault t f never = absurd (never refl)
-not_written d text out ended old new SinkFault t f never = (f.0, f.2, inr (record { full = out; is = full d text out ended t; front = f.1 }))
-not_written d text out ended old new NoMemory t f never = (f.0, f.2, inr (record { full = out; is = full d text out ended t; front = f.1 }))
+not_written d text out ended old new SinkFault t f never = (f.0, f.2, inr (record { full = out; is = full d text out ended t; prefix = f.1 }))
+not_written d text out ended old new NoMemory t f never = (f.0, f.2, inr (record { full = out; is = full d text out ended t; prefix = f.1 }))
 
 -- ---- from what was read to what the source told
 
 -- a front that passes the limit is refused where the whole is
-refusal_alike : (d : Direction) (front whole out : Text) → input_limit < length front → IsFrontOf front whole → IsTextRefusal d front out → IsTextRefusal d whole out
+refusal_alike : (d : Direction) (front whole out : Text) → input_limit < length front → IsPrefixOf front whole → IsTextRefusal d front out → IsTextRefusal d whole out
 refusal_alike d front whole out long is p =
     let rest = is.0 in
     let t = there p.before p.line p.others (lines (front ++ rest)) (subst (λ (l : List (List ℕ)). Extends l (lines (front ++ rest))) p.cut (extends front rest)) in
@@ -79,14 +79,14 @@ refusal_alike d front whole out long is p =
           whole = p.whole;
         }
 
-front_alike : (d : Direction) (text all out : Text) → IsFrontOf text all → input_limit < length text → IsTextFront d text out → IsTextFront d all out
+front_alike : (d : Direction) (text all out : Text) → IsPrefixOf text all → input_limit < length text → IsTextPrefix d text out → IsTextPrefix d all out
 front_alike d text all out front long (inl none) = inl none
 front_alike d text all out front long (inr p) = elim p.is [
   | inl whole ↦ absurd (omega (arith, long, whole.within))
-  | inr placed ↦ inr (record { full = p.full; is = inr (refusal_alike d text all p.full long front placed); front = p.front })
+  | inr placed ↦ inr (record { full = p.full; is = inr (refusal_alike d text all p.full long front placed); prefix = p.prefix })
 ]
 
-alike : (d : Direction) (r : Result Ended Stop) (text all out : Text) → IsFrontOf text all → input_limit < length text → Translates d r text out → Translates d r all out
+alike : (d : Direction) (r : Result Ended Stop) (text all out : Text) → IsPrefixOf text all → input_limit < length text → Translates d r text out → Translates d r all out
 alike d (Ok Done) text all out front long t = absurd (omega (arith, long, t.within))
 alike d (Ok Refused) text all out front long t = refusal_alike d text all out long front t
 alike d (Ok Usage) text all out front long t = t

@@ -5,7 +5,7 @@ use Rattle.std.specs.List.{concat}
 use Rattle.std.specs.Prelude.{IfErr}
 use Rattle.sd_text.specs.Texts.{Text}
 use Rattle.sd_script.specs.Limits.{input_limit}
-use Rattle.sd_script.specs.Grammar.{lines, without_feed}
+use Rattle.sd_outside.specs.Lines.{lines, without_feed}
 use Rattle.sd_script.proofs.ScriptLemmas.{IsNextLine, concat-snoc}
 use Rattle.sd_show.specs.declared.calls.Heard.{Heard}
 use Rattle.sd_show.specs.declared.error.Word.{Word}

@@ -10,7 +10,8 @@ use Rattle.sd_claims.specs.Headline.{HasNoEvents}
 use Rattle.sd_link.specs.World.{World, start}
 use Rattle.sd_link.specs.Steps.{Step, Send, Stray, Crash, Fault, Fail, Entry, after, entries_of}
 use Rattle.sd_link.specs.Parts.{fails_in, faults_in}
-use Rattle.sd_link.specs.Lawful.{IsLawful, IsFrontOf, AllStopAsNamed, AllStrayAsNamed, is_stopped, next_copy, strayed, named_sends}
+use Rattle.sd_outside.specs.Streams.{IsPrefixOf}
+use Rattle.sd_link.specs.Lawful.{IsLawful, AllStopAsNamed, AllStrayAsNamed, is_stopped, next_copy, strayed, named_sends}
 
 -- a step that is neither a stranger's nor a crash or a failure
 abbrev pub IsCalmStep : Step → Type 0
@@ -24,7 +25,7 @@ not_stopped : (copy : Option (ℕ × ℕ)) → is_stopped (λ id place. false) c
 not_stopped None stopped = absurd cc
 not_stopped (Some place) stopped = absurd cc
 
-no_front : (sent : List Packet) (packet : Packet) → IsFrontOf (sent ++ packet ∷ []) [] → ⊥
+no_front : (sent : List Packet) (packet : Packet) → IsPrefixOf (sent ++ packet ∷ []) [] → ⊥
 no_front sent packet front = omega (arith, ap length front.1, length-append (sent ++ packet ∷ []) front.0, length-append sent (packet ∷ []))
 
 pub calm_steps : (c : Config) (fates : Fates) (w : World) (entries : List Entry) (steps : List Step) → AllStopAsNamed c fates (λ id copy. false) w entries steps → AllStrayAsNamed (λ tick. []) c w steps
@@ -42,7 +43,7 @@ no_named c w (Send packet ∷ steps) = no_named c (after c w (Send packet)) step
 no_named c w (step ∷ steps) = no_named c (after c w step) steps
 
 abbrev no_events : Events
-no_events = record { fates = []; strangers = [] }
+no_events = record { fates = []; strangers = []; faults = [] }
 
 quiet_run : (c : Config) (steps : List Step) → IsLawful c (plan_of no_events) steps → AllByRecursion IsCalmStep steps
 quiet_run c steps law =
@@ -51,7 +52,7 @@ quiet_run c steps law =
 -- without event lines each step of a lawful run is calm
 pub calm_run : (c : Config) (events : Events) (steps : List Step) → HasNoEvents events → IsLawful c (plan_of events) steps → AllByRecursion IsCalmStep steps
 calm_run c events steps none law =
-    let same : events ≡ no_events = λ i. record { fates = none.fates i; strangers = none.strangers i } in
+    let same : events ≡ no_events = λ i. record { fates = none.fates i; strangers = none.strangers i; faults = none.faults i } in
     quiet_run c steps (subst (λ (e : Events). IsLawful c (plan_of e) steps) same law)
 
 -- in such steps nothing fails

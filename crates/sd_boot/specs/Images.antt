@@ -2,7 +2,7 @@
 use Rattle.std.specs.Prelude.{◌≡◌, ◌⊎◌, ℕ, ◌+◌, List, [], ◌∷◌, ◌++◌, length, map, codes, Option, Some, None, IfSome, Result, Ok, Err}
 use Rattle.std.specs.Fmt.{decimal}
 use Rattle.sd_config.specs.declared.config.SwapLine.{SwapLine}
-use Rattle.sd_link.specs.Lawful.{IsFrontOf}
+use Rattle.sd_outside.specs.Streams.{IsPrefixOf}
 use Rattle.sd_text.specs.Runs.{runs_text}
 use Rattle.sd_stable_disk.specs.Image.{opens, holds, new_image, zero_files}
 use Rattle.sd_stable_disk.specs.declared.errors.OpenError.{OpenError}
@@ -82,16 +82,16 @@ IsAnswer Show input out = IsShownImage input out ⊎ IsImageRefusal input out
 pub record IsCutAnswer (word : ImageWord) (input out : List ℕ) : Type 0 where
   pub full : List ℕ
   pub is : IsAnswer word input full
-  pub front : IsFrontOf out full
+  pub prefix : IsPrefixOf out full
 
-abbrev pub IsAnswerFront : ImageWord → List ℕ → List ℕ → Type 0
-IsAnswerFront word input out = (out ≡ []) ⊎ IsCutAnswer word input out
+abbrev pub IsAnswerPrefix : ImageWord → List ℕ → List ℕ → Type 0
+IsAnswerPrefix word input out = (out ≡ []) ⊎ IsCutAnswer word input out
 
-abbrev pub IsImageFront : List ℕ → List ℕ → Type 0
-IsImageFront input out = IsAnswerFront Make input out
+abbrev pub IsImagePrefix : List ℕ → List ℕ → Type 0
+IsImagePrefix input out = IsAnswerPrefix Make input out
 
-abbrev pub IsShownFront : List ℕ → List ℕ → Type 0
-IsShownFront input out = IsAnswerFront Show input out
+abbrev pub IsShownPrefix : List ℕ → List ℕ → Type 0
+IsShownPrefix input out = IsAnswerPrefix Show input out
 
 -- what is written, by how the program ended
 abbrev pub EndsSo : ImageWord → Ended → List ℕ → List ℕ → Type 0
@@ -107,8 +107,8 @@ EndsSo Show NoImage input out = IsImageRefusal input out
 abbrev pub Answers : ImageWord → Result Ended Stop → List ℕ → List ℕ → Type 0
 Answers word (Ok ended) input out = EndsSo word ended input out
 Answers word (Err SourceFault) input out = out ≡ []
-Answers word (Err SinkFault) input out = IsAnswerFront word input out
-Answers word (Err NoMemory) input out = IsAnswerFront word input out
+Answers word (Err SinkFault) input out = IsAnswerPrefix word input out
+Answers word (Err NoMemory) input out = IsAnswerPrefix word input out
 
 -- the line that says why an image is refused; out of memory says nothing
 abbrev pub IsRefusalLine : OpenError → List ℕ → Type 0

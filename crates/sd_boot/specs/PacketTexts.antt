@@ -5,8 +5,8 @@ use Rattle.std.specs.Fmt.{decimal}
 use Rattle.sd_outside.specs.declared.packet.Packet.{Packet}
 use Rattle.sd_text.specs.Packets.{packet_text, IsPacketLine}
 use Rattle.sd_text.specs.Texts.{Text}
-use Rattle.sd_link.specs.Lawful.{IsFrontOf}
-use Rattle.sd_script.specs.Grammar.{lines, without_feed}
+use Rattle.sd_outside.specs.Streams.{IsPrefixOf}
+use Rattle.sd_outside.specs.Lines.{lines, without_feed}
 use Rattle.sd_script.specs.Limits.{input_limit}
 use Rattle.sd_show.specs.declared.error.Word.{Word}
 use Rattle.sd_show.specs.declared.error.ShowError.{ShowError}
@@ -81,10 +81,10 @@ pub record IsTextRefusal (d : Direction) (input out : Text) : Type 0 where
 pub record IsCutText (d : Direction) (input out : Text) : Type 0 where
   pub full : Text
   pub is : IsTranslated d input full ⊎ IsTextRefusal d input full
-  pub front : IsFrontOf out full
+  pub prefix : IsPrefixOf out full
 
-abbrev pub IsTextFront : Direction → Text → Text → Type 0
-IsTextFront d input out = (out ≡ []) ⊎ IsCutText d input out
+abbrev pub IsTextPrefix : Direction → Text → Text → Type 0
+IsTextPrefix d input out = (out ≡ []) ⊎ IsCutText d input out
 
 -- the same for each of the two programs
 abbrev pub IsShown : Text → Text → Type 0
@@ -93,8 +93,8 @@ IsShown input out = IsTranslated Show input out
 abbrev pub IsShowRefusal : Text → Text → Type 0
 IsShowRefusal input out = IsTextRefusal Show input out
 
-abbrev pub IsShowFront : Text → Text → Type 0
-IsShowFront input out = IsTextFront Show input out
+abbrev pub IsShowPrefix : Text → Text → Type 0
+IsShowPrefix input out = IsTextPrefix Show input out
 
 abbrev pub IsPacked : Text → Text → Type 0
 IsPacked input out = IsTranslated Pack input out
@@ -102,8 +102,8 @@ IsPacked input out = IsTranslated Pack input out
 abbrev pub IsPackRefusal : Text → Text → Type 0
 IsPackRefusal input out = IsTextRefusal Pack input out
 
-abbrev pub IsPackFront : Text → Text → Type 0
-IsPackFront input out = IsTextFront Pack input out
+abbrev pub IsPackPrefix : Text → Text → Type 0
+IsPackPrefix input out = IsTextPrefix Pack input out
 
 -- what is written, by how the program ended
 abbrev pub Translates : Direction → Result Ended Stop → Text → Text → Type 0
@@ -112,8 +112,8 @@ Translates d (Ok Refused) input out = IsTextRefusal d input out
 Translates d (Ok Usage) input out = ⊥
 Translates d (Ok NoImage) input out = ⊥
 Translates d (Err SourceFault) input out = out ≡ []
-Translates d (Err SinkFault) input out = IsTextFront d input out
-Translates d (Err NoMemory) input out = IsTextFront d input out
+Translates d (Err SinkFault) input out = IsTextPrefix d input out
+Translates d (Err NoMemory) input out = IsTextPrefix d input out
 
 -- what a refusal says; out of memory says nothing
 abbrev pub IsNotGiven : Direction → List Heard → Text → ShowError → Type 0

@@ -1,7 +1,7 @@
 //! The programs `show` and `pack`: each line of the input is turned into another.
 ghost use Rattle.std.specs.Prelude.{◌≡◌, ◌≤◌, OnOk, IfOk, IfErr, IfSome, IsErrOf, Ok, Some, []};
 ghost use Rattle.sd_outside.specs.Causes.{Rose};
-ghost use Rattle.sd_script.specs.Grammar.{without_feed};
+ghost use Rattle.sd_outside.specs.Lines.{without_feed};
 ghost use Rattle.sd_script.specs.Limits.{input_limit};
 ghost use Rattle.sd_streams.specs.Writing.{GainsSome, Writes};
 ghost use Rattle.sd_boot.specs.PacketTexts.{ShowsLine, PacksLine, Gives, IsNotGiven, IsLineRefused, Translates};
@@ -9,8 +9,8 @@ ghost use Rattle.sd_boot.specs.PacketTexts.{ShowsLine, PacksLine, Gives, IsNotGi
 use crate::input::{INPUT_LIMIT, read_all};
 use crate::output::{place_line, write};
 use crate::status::{Ended, Stop};
-use sd_outside::{ByteList, NoMemory, Sink, Source};
-use sd_script::{PacketLineError, body_of, read_packet_line, split_line, write_packet_line};
+use sd_outside::{ByteList, NoMemory, Sink, Source, split_line, without_feed};
+use sd_script::{PacketLineError, read_packet_line, write_packet_line};
 use sd_show::{Seen, ShowError, Word, pack_line, show_line};
 use std::alloc::Global;
 
@@ -68,8 +68,8 @@ fn turned(
         return Err(NOT_A_LINE);
     }
     match direction {
-        Direction::Show => shown(alloc, seen, body_of(line)),
-        Direction::Pack => packed(alloc, body_of(line)),
+        Direction::Show => shown(alloc, seen, without_feed(line)),
+        Direction::Pack => packed(alloc, without_feed(line)),
     }
 }
 

@@ -7,7 +7,7 @@ ghost use Rattle.sd_config.specs.Commands.{IsCommand};
 ghost use Rattle.sd_config.specs.Events.{IsEvents};
 ghost use Rattle.sd_script.specs.Rules.{KeepsRules};
 ghost use Rattle.sd_segment.specs.Segment.{history_of, text_drained};
-ghost use Rattle.sd_claims.specs.Headline.{Plays, PlaysFront};
+ghost use Rattle.sd_claims.specs.Headline.{Plays, PlaysPrefix};
 ghost use Rattle.sd_streams.specs.Writing.{GainsSome};
 ghost use Rattle.sd_boot.specs.Play.{IsNew, script_of};
 
@@ -27,11 +27,7 @@ fn network(alloc: Global, config: Config, events: Events) -> Result<Segment, NoM
     ensures drained { IfOk result (λ segment. text_drained segment ≡ []) }
 {
     let disk = new_disk(alloc, &config.swap)?;
-    match Segment::new(alloc, config, events, disk) {
-        Ok(segment) => Ok(segment),
-        // Such a disk is refused for nothing that it holds.
-        Err(_) => Err(NoMemory),
-    }
+    Ok(Segment::new(alloc, config, events, disk)?)
 }
 
 /// Does the commands over a network in which nothing happened yet, and writes their transcript.
@@ -46,7 +42,7 @@ fn commanded<K: Sink>(
     requires commands { All IsCommand commands.now }
     requires new { IsNew client link.old }
     ensures done { OnOk result (GainsSome (K.written sink.old) (K.written sink.new) (Plays (script_of (history_of link.old) commands.now))) }
-    ensures cut { OnErr result (GainsSome (K.written sink.old) (K.written sink.new) (PlaysFront (script_of (history_of link.old) commands.now))) }
+    ensures cut { OnErr result (GainsSome (K.written sink.old) (K.written sink.new) (PlaysPrefix (script_of (history_of link.old) commands.now))) }
     ensures ended { IfOk result (λ ended. ended ≡ Ended.Done) }
     ensures fault { IsErrOf result Stop.SinkFault → Rose (K.faults sink.old) (K.faults sink.new) }
     ensures source { IsErrOf result Stop.SourceFault → ⊥ }
@@ -76,7 +72,7 @@ fn over_network<K: Sink>(
     requires same { IsFor config client }
     requires commands { All IsCommand commands.now }
     ensures done { OnOk result (GainsSome (K.written sink.old) (K.written sink.new) (Plays (record { config = config; events = events; commands = commands.now }))) }
-    ensures cut { OnErr result (GainsSome (K.written sink.old) (K.written sink.new) (PlaysFront (record { config = config; events = events; commands = commands.now }))) }
+    ensures cut { OnErr result (GainsSome (K.written sink.old) (K.written sink.new) (PlaysPrefix (record { config = config; events = events; commands = commands.now }))) }
     ensures ended { IfOk result (λ ended. ended ≡ Ended.Done) }
     ensures fault { IsErrOf result Stop.SinkFault → Rose (K.faults sink.old) (K.faults sink.new) }
     ensures source { IsErrOf result Stop.SourceFault → ⊥ }
@@ -90,7 +86,7 @@ fn over_network<K: Sink>(
 pub(crate) fn play<K: Sink>(alloc: Global, script: Script, sink: &mut K) -> Result<Ended, Stop>
     requires { KeepsRules script }
     ensures done { OnOk result (GainsSome (K.written sink.old) (K.written sink.new) (Plays script)) }
-    ensures cut { OnErr result (GainsSome (K.written sink.old) (K.written sink.new) (PlaysFront script)) }
+    ensures cut { OnErr result (GainsSome (K.written sink.old) (K.written sink.new) (PlaysPrefix script)) }
     ensures ended { IfOk result (λ ended. ended ≡ Ended.Done) }
     ensures fault { IsErrOf result Stop.SinkFault → Rose (K.faults sink.old) (K.faults sink.new) }
     ensures source { IsErrOf result Stop.SourceFault → ⊥ }

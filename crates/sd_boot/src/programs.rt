@@ -6,10 +6,10 @@ ghost use Rattle.sd_stable_disk.specs.Image.{opens, holds};
 ghost use Rattle.sd_stable_disk.specs.declared.errors.OpenError.{OpenError};
 ghost use Rattle.sd_script.specs.declared.script.Script.{Script};
 ghost use Rattle.sd_script.specs.Grammar.{IsScript};
-ghost use Rattle.sd_streams.specs.Writing.{Writes};
-ghost use Rattle.sd_claims.specs.Headline.{IsTranscript, IsRefusal, IsFront};
-ghost use Rattle.sd_boot.specs.PacketTexts.{IsShown, IsShowRefusal, IsShowFront, IsPacked, IsPackRefusal, IsPackFront};
-ghost use Rattle.sd_boot.specs.Images.{IsImageOf, IsImageFront, IsShownImage, IsImageRefusal, IsShownFront};
+ghost use Rattle.sd_streams.specs.Writing.{Writes, GainsPrefix};
+ghost use Rattle.sd_claims.specs.Headline.{IsTranscript, IsRefusal, IsOutputPrefix};
+ghost use Rattle.sd_boot.specs.PacketTexts.{IsShown, IsShowRefusal, IsShowPrefix, IsPacked, IsPackRefusal, IsPackPrefix};
+ghost use Rattle.sd_boot.specs.Images.{IsImageOf, IsImagePrefix, IsShownImage, IsImageRefusal, IsShownPrefix};
 ghost use Rattle.sd_boot.specs.Programs.{Performs};
 ghost use Rattle.sd_boot.specs.Words.{IsReplay, IsShow, IsPack, IsImageMake, IsImageShow, IsRow, usage_line};
 
@@ -69,42 +69,43 @@ pub fn run<S: Source, K: Sink>(
     ensures refusal { IsReplay words.now → result.0 ≡ 1 →
         Writes (S.left source.old) (K.written sink.old) (K.written sink.new) IsRefusal }
     // Cut short by the sink or by running out of memory: the output is a prefix of the one or the other.
-    ensures front { IsReplay words.now → 4 ≤ result.0 →
-        Writes (S.left source.old) (K.written sink.old) (K.written sink.new) IsFront }
+    ensures prefix { IsReplay words.now → 4 ≤ result.0 →
+        Writes (S.left source.old) (K.written sink.old) (K.written sink.new) IsOutputPrefix }
     // `show`: each line of the input is a packet's, and the output is their texts, each with a line feed.
     ensures shown { IsShow words.now → result.0 ≡ 0 →
         Writes (S.left source.old) (K.written sink.old) (K.written sink.new) IsShown }
     // Refused: the texts of the lines before the first refused one, its number, and the word and the place.
     ensures show_refusal { IsShow words.now → result.0 ≡ 1 →
         Writes (S.left source.old) (K.written sink.old) (K.written sink.new) IsShowRefusal }
-    ensures show_front { IsShow words.now → 4 ≤ result.0 →
-        Writes (S.left source.old) (K.written sink.old) (K.written sink.new) IsShowFront }
+    ensures show_prefix { IsShow words.now → 4 ≤ result.0 →
+        Writes (S.left source.old) (K.written sink.old) (K.written sink.new) IsShowPrefix }
     // `pack`: each line of the input is a packet's text, and the output is the packets' lines.
     ensures packed { IsPack words.now → result.0 ≡ 0 →
         Writes (S.left source.old) (K.written sink.old) (K.written sink.new) IsPacked }
     ensures pack_refusal { IsPack words.now → result.0 ≡ 1 →
         Writes (S.left source.old) (K.written sink.old) (K.written sink.new) IsPackRefusal }
-    ensures pack_front { IsPack words.now → 4 ≤ result.0 →
-        Writes (S.left source.old) (K.written sink.old) (K.written sink.new) IsPackFront }
+    ensures pack_prefix { IsPack words.now → 4 ≤ result.0 →
+        Writes (S.left source.old) (K.written sink.old) (K.written sink.new) IsPackPrefix }
     // `image make`: the input spells a script, and the output is the image of its swap file, or of no file.
     ensures image { IsImageMake words.now → result.0 ≡ 0 →
         Writes (S.left source.old) (K.written sink.old) (K.written sink.new) IsImageOf }
     ensures image_unmade { IsImageMake words.now → result.0 ≡ 1 →
         Writes (S.left source.old) (K.written sink.old) (K.written sink.new) IsRefusal }
-    ensures image_front { IsImageMake words.now → 4 ≤ result.0 →
-        Writes (S.left source.old) (K.written sink.old) (K.written sink.new) IsImageFront }
+    ensures image_prefix { IsImageMake words.now → 4 ≤ result.0 →
+        Writes (S.left source.old) (K.written sink.old) (K.written sink.new) IsImagePrefix }
     // `image show`: the output is the text of the files that the image holds.
     ensures shown_image { IsImageShow words.now → result.0 ≡ 0 →
         Writes (S.left source.old) (K.written sink.old) (K.written sink.new) IsShownImage }
     // The image is refused: the output is the line that says why.
     ensures image_refusal { IsImageShow words.now → result.0 ≡ 8 →
         Writes (S.left source.old) (K.written sink.old) (K.written sink.new) IsImageRefusal }
-    ensures shown_image_front { IsImageShow words.now → 4 ≤ result.0 →
-        Writes (S.left source.old) (K.written sink.old) (K.written sink.new) IsShownFront }
+    ensures shown_image_prefix { IsImageShow words.now → 4 ≤ result.0 →
+        Writes (S.left source.old) (K.written sink.old) (K.written sink.new) IsShownPrefix }
     // Cut short by the source: nothing was written.
     ensures nothing { result.0 ≡ 3 → K.written sink.new ≡ K.written sink.old }
-    // The usage line stands exactly where the arguments are unknown, unless the sink failed.
+    // The usage line stands exactly where the arguments are unknown; where the sink failed, a prefix of it.
     ensures usage { result.0 ≡ 2 → Gains (K.written sink.old) (K.written sink.new) usage_line }
+    ensures usage_prefix { (IsRow words.now → ⊥) → result.0 ≡ 4 → GainsPrefix (K.written sink.old) (K.written sink.new) usage_line }
     ensures unknown { (IsRow words.now → ⊥) → (result.0 ≡ 2) ⊎ (result.0 ≡ 4) }
     ensures known { IsRow words.now → result.0 ≡ 2 → ⊥ }
     // When each status comes.

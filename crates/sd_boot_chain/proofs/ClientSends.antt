@@ -121,12 +121,12 @@ module _ (c : Config) (is : IsConfig c) where
       (all_always AnyPacket (sends_in part) (λ p. tt)) allowed
 
   -- So what it sends is as it should be.
-  pub sends_right : (settled : List Step → Type 0) (w : World) (n : Counts) (command : Command) (answer : Told) (part : List Step) → IsHonest c w → AllAllowed c w part → Cause settled c n command answer part → AllByRecursion (IsClients c) (sends_in part)
-  sends_right settled w n command answer part h allowed caused = part_sends c (IsClients c) (ComesToClient c) AnyAddr sends_all settled n command answer part caused (honest_got w part h allowed)
+  pub sends_right : (settled : List Step → Type 0) (w : World) (n : Counts) (command : Command) (answer : Told) (next : Counts) (part : List Step) → IsHonest c w → AllAllowed c w part → Cause settled c n command answer next part → AllByRecursion (IsClients c) (sends_in part)
+  sends_right settled w n command answer next part h allowed caused = part_sends c (IsClients c) (ComesToClient c) AnyAddr sends_all settled n command answer next part caused (honest_got w part h allowed)
 
   -- After a command's part the world is so too.
-  pub honest_part : (settled : List Step → Type 0) (w : World) (n : Counts) (command : Command) (answer : Told) (part : List Step) → IsHonest c w → AllAllowed c w part → Cause settled c n command answer part → IsHonest c (run c w part)
-  honest_part settled w n command answer part h allowed caused = servers_run c is (IsClients c) w part h (sends_right settled w n command answer part h allowed caused) allowed
+  pub honest_part : (settled : List Step → Type 0) (w : World) (n : Counts) (command : Command) (answer : Told) (next : Counts) (part : List Step) → IsHonest c w → AllAllowed c w part → Cause settled c n command answer next part → IsHonest c (run c w part)
+  honest_part settled w n command answer next part h allowed caused = servers_run c is (IsClients c) w part h (sends_right settled w n command answer next part h allowed caused) allowed
 
   fetches_away : (a : Addr) → Fetches c a → a.ip ≢ c.server.ip
   fetches_away a m e = is.ips (sym e ∙ m.0)

@@ -1,5 +1,5 @@
 -- What the client knows while it gets packets until a tick, and drops them.
-use Rattle.std.proofs.Common.{◌≡◌, ℕ, ◌+◌, ◌≤◌, List, [], ◌∷◌, ◌++◌, length, Some, None, Ok, Err, refl, ◌∙◌, ap, subst, length-append}
+use Rattle.std.proofs.Common.{◌≡◌, ℕ, ◌+◌, ◌<◌, ◌≤◌, List, [], ◌∷◌, ◌++◌, length, Some, None, Ok, Err, refl, sym, ◌∙◌, ap, subst, arith, append_assoc, length-append}
 use Rattle.std.proofs.lemmas.List.{append-nil}
 use Rattle.sd_outside.specs.declared.packet.Packet.{Packet}
 use Rattle.sd_link.specs.World.{World}
@@ -9,6 +9,7 @@ use Rattle.sd_link.specs.declared.link.LinkError.{LinkError}
 use Rattle.sd_link.specs.declared.link.LinkError.TheVariants.{Failed, NoMemory}
 use Rattle.sd_link.specs.Link.{GoesOn, Hands, Receives}
 use Rattle.sd_link.proofs.Histories.{sends-append, got-append}
+use Rattle.sd_link.specs.Tries.{EndsWithPacket}
 use Rattle.sd_rpc_retry.specs.Lasting.{StaysBefore}
 use Rattle.sd_rpc_retry.proofs.Getting.{stays_then, at_end}
 
@@ -18,8 +19,13 @@ pub record Gets (until count : ℕ) (old : History) (part : List Step) : Type 0 
   pub ticks : StaysBefore until old part
   pub counted : length (got_in part) ≡ count
 
-pub gets_none : (until : ℕ) (h : History) → Gets until 0 h []
-gets_none until h = record { silent = refl; ticks = tt; counted = refl }
+-- so many packets were got and dropped; where there was one, nothing came after it
+pub record Drops (until count : ℕ) (old : History) (part : List Step) : Type 0 where
+  pub gets : Gets until count old part
+  pub last : 0 < count → EndsWithPacket (λ packet. []) part
+
+pub drops_none : (until : ℕ) (h : History) → Drops until 0 h []
+drops_none until h = record { gets = record { silent = refl; ticks = tt; counted = refl }; last = λ some. absurd (omega (arith, some)) }
 
 silent_then : (xs ys : List Step) → sends_in xs ≡ [] → sends_in ys ≡ [] → sends_in (xs ++ ys) ≡ []
 silent_then xs ys first second = sends-append xs ys ∙ ap (λ (l : List Packet). l ++ sends_in ys) first ∙ second
@@ -38,7 +44,7 @@ none_of until b ys Failed h = h.2
 none_of until b ys NoMemory h = h
 
 module _ (until count : ℕ) (a b : History) (xs ys : List Step) (goes : GoesOn a b xs) (g : Gets until count a xs) where
-  pub gets_packet : (packet : Packet) → Receives until (Ok (Some packet)) b ys → Gets until (count + 1) a (xs ++ ys)
+  gets_packet : (packet : Packet) → Receives until (Ok (Some packet)) b ys → Gets until (count + 1) a (xs ++ ys)
   gets_packet packet r = record {
     silent = silent_then xs ys g.silent r.silent;
     ticks = stays_then a b xs ys until goes g.ticks r.ticks;
@@ -61,3 +67,15 @@ module _ (until count : ℕ) (a b : History) (xs ys : List Step) (goes : GoesOn 
     ticks = stays_then a b xs ys until goes g.ticks r.ticks;
     counted = ap length (got_nothing xs ys (none_of until b ys why r.hands)) ∙ g.counted;
   }
+
+-- one packet more is dropped
+pub drops_packet : (until count : ℕ) (a b : History) (xs ys : List Step) → GoesOn a b xs → Drops until count a xs → (packet : Packet) → Receives until (Ok (Some packet)) b ys → Drops until (count + 1) a (xs ++ ys)
+drops_packet until count a b xs ys goes d packet r = record {
+  gets = gets_packet until count a b xs ys goes d.gets packet r;
+  last = λ some. record {
+    before = xs ++ r.hands.0;
+    id = r.hands.1;
+    packet = packet;
+    cut = ap (λ (l : List Step). xs ++ l) r.hands.2 ∙ sym (append_assoc xs r.hands.0 (Get r.hands.1 packet ∷ []));
+  };
+}

@@ -60,8 +60,8 @@ module _ {X : Type 0} (S G : Packet → Type 0) (request : Packet) (h : Hearing 
   rest_sends rest replied all = subst (λ (l : List Packet). AllByRecursion S l) (sym (replied_sends h.replies rest replied)) (replies_send S G h.replies so (got_in rest) all)
 
   hear_sends : (part : List Step) → FailsToHear h part → AllByRecursion G (got_in part) → AllByRecursion S (sends_in part)
-  hear_sends _ (at_wait rest replied) all = both_sent S rest (Fail ∷ []) (rest_sends rest replied (got_split G rest (Fail ∷ []) all).0) tt
-  hear_sends _ (at_reply rest id packet reply failed replied is fails) all =
+  hear_sends _ (at_wait rest replied few) all = both_sent S rest (Fail ∷ []) (rest_sends rest replied (got_split G rest (Fail ∷ []) all).0) tt
+  hear_sends _ (at_reply rest id packet reply failed replied few is fails) all =
       let g = got_split G rest (Get id packet ∷ failed) all in
       let ok : AllByRecursion S (reply ∷ []) = subst (λ (l : List Packet). AllByRecursion S l) is (so packet g.1.0) in
       both_sent S rest (Get id packet ∷ failed) (rest_sends rest replied g.0) (sent_or_not S reply failed ok.0 fails)

@@ -9,7 +9,6 @@ use Rattle.sd_outside.specs.declared.packet.Packet.{Packet}
 use Rattle.sd_outside.specs.declared.packet.Packet.TheVariants.{Frame, Udp}
 use Rattle.sd_rarp.specs.Answer.{is_mac}
 use Rattle.sd_config.specs.declared.config.Config.{Config}
-use Rattle.sd_config.specs.declared.stage.Stage.{Stage}
 use Rattle.sd_config.proofs.Lists.{all_always, all_weaker}
 use Rattle.sd_rpc_msg.specs.Layout.{message}
 use Rattle.sd_services.specs.RpcCalls.{spelled}
@@ -24,7 +23,9 @@ use Rattle.sd_link.proofs.InFlight.{AllAsk, GotFine, keeps_got}
 use Rattle.sd_rpc_retry.specs.Calling.{Verdict, verdict_in, verdict_of, message_says, and_then, comes_from, is_everyone, is_at, home}
 use Rattle.sd_rpc_retry.specs.declared.calling.Caller.{Caller}
 use Rattle.sd_claims.specs.Rarp.{Learned, learned_in, learned_from}
-use Rattle.sd_claims.specs.Booting.{Counts, Call, IsServerIp, EndsFromServer, CallTold, ServerTold, ComesTo, to_whoami, to_getfile, to_getport, LearnsAddress}
+use Rattle.sd_rpc_retry.specs.Chain.{Call, CallTold, RowEnd, Row}
+use Rattle.sd_rpc_retry.proofs.Rows.{row_so}
+use Rattle.sd_claims.specs.Booting.{IsServerIp, EndsFromServer, ServerTold, LearnsAddress, Place, asks_name, asks_root, asks_mount, End, call_at, boot_way}
 use Rattle.sd_boot_chain.specs.Replies.{ComesRight, AllComeRight}
 use Rattle.sd_boot_chain.proofs.Fetched.{got_cut, got_split}
 use Rattle.sd_boot_chain.proofs.Turned.{and_first, and_second}
@@ -102,7 +103,7 @@ module _ (c : Config) (caller : Caller) (call : Call) (verdict : Verdict) (at : 
         from = λ rules. (right rules).0 (from_portmapper call.dst from (is_everyone call.dst) at (and_second (is_at (home caller) to) (comes_from call.dst from) is));
       }
 
-  pub server_told : (settled : List Step → Type 0) (part : List Step) → CallTold verdict settled caller call part → AllComeRight c part → ServerTold c verdict settled caller call part
+  server_told : (settled : List Step → Type 0) (part : List Step) → CallTold verdict settled caller call part → AllComeRight c part → ServerTold c verdict settled caller call part
   server_told settled part told all =
       let e = told.ends in record {
         told = told;
@@ -110,7 +111,14 @@ module _ (c : Config) (caller : Caller) (call : Call) (verdict : Verdict) (at : 
       }
 
 -- each call of a boot goes to a portmapper
-pub to_portmapper : (settled : List Step → Type 0) (c : Config) (n : Counts) (program : List ℕ) (step : Stage) (caller : Caller) (call : Call) (before : List Step) → ComesTo settled c n program step caller call before → call.dst.port ≡ pmap_port
-to_portmapper settled c n program _ _ _ _ (to_whoami learned address fetch told named fetched) = refl
-to_portmapper settled c n program _ _ _ _ (to_getfile caller call before last from client domain router to told) = refl
-to_portmapper settled c n program _ _ _ _ (to_getport caller call before last from server ip path to told) = refl
+to_portmapper : (at : Place) → (call_at at).dst.port ≡ pmap_port
+to_portmapper (asks_name address) = refl
+to_portmapper (asks_root from client) = refl
+to_portmapper (asks_mount server) = refl
+
+-- what its calls were told came from the server
+pub row_right : (c : Config) (settled : List Step → Type 0) (from : Place) (first next : Caller) (end : RowEnd End) (part : List Step) → AllComeRight c part → Row boot_way CallTold settled from first end next part
+    → Row boot_way (ServerTold c) settled from first end next part
+row_right c settled from first next end part right r =
+    row_so boot_way CallTold (ServerTold c) (AllComeRight c) (λ xs ys all. (first_right c xs ys all, second_right c xs ys all))
+    (λ at verdict still caller more all told. server_told c caller (call_at at) verdict (to_portmapper at) still more told all) settled from first next end part right r

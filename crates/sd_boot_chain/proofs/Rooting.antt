@@ -1,15 +1,15 @@
 -- What came of the calls that follow the boot program.
-use Rattle.std.proofs.Common.{◌≡◌, ℕ, List, ◌++◌, Option, Result, Ok, Err, refl, sym, subst, append_assoc}
-use Rattle.std.specs.Prelude.{IfOk, codes}
+use Rattle.std.proofs.Common.{◌≡◌, ℕ, ◌==◌, Bool, true, false, cond, List, ◌++◌, Option, Some, None, Result, Ok, Err, refl, sym, ◌∙◌, ap, subst}
+use Rattle.std.specs.Prelude.{IfOk, IfSome}
 use Rattle.sd_outside.specs.declared.packet.Addr.{Addr}
 use Rattle.sd_config.specs.declared.stage.Stage.{Stage}
 use Rattle.sd_config.specs.declared.stage.Stage.TheVariants as stage
-use Rattle.sd_config.specs.declared.config.Config.{Config}
-use Rattle.sd_portmap.specs.Layout.{pmap_port}
+use Rattle.sd_config.specs.declared.told.Told.{Told}
+use Rattle.sd_config.specs.declared.told.Told.TheVariants.{BootUnbuilt, BootTimeout, BootFlood, BootDenied, BootNoPort, BootLinkFault}
+use Rattle.sd_outside.specs.declared.errors.NoMemory.{NoMemory}
 use Rattle.sd_link.specs.Steps.{Step, History}
-use Rattle.sd_link.specs.Tries.{beyond}
-use Rattle.sd_link.specs.Link.{Moves, IsSettledBy}
-use Rattle.sd_link.proofs.Histories.{moves_weaker, moves_then, goes_then}
+use Rattle.sd_link.specs.Link.{Moves, GoesOn, IsSettledBy}
+use Rattle.sd_link.proofs.Histories.{moves_weaker, moves_then}
 use Rattle.sd_rpc_retry.specs.declared.calling.Ask.{Ask}
 use Rattle.sd_rpc_retry.specs.declared.calling.Answer.{Answer}
 use Rattle.sd_rpc_retry.specs.declared.calling.Answer.TheVariants as answers
@@ -21,18 +21,18 @@ use Rattle.sd_rpc_retry.specs.declared.question.Named.{Named}
 use Rattle.sd_rpc_retry.specs.declared.question.Located.{Located}
 use Rattle.sd_rpc_retry.specs.Calling.{named, located}
 use Rattle.sd_rpc_retry.specs.Calls.{asked_as, CameOf}
+use Rattle.sd_rpc_retry.specs.Chain.{Call, CallTold, after_call, on, RowEnd, came, timed_out, flooded, denied, failed, Row}
 use Rattle.sd_rpc_retry.proofs.Settling.{settled-beyond}
-use Rattle.sd_claims.specs.Booting.{Call, CallTold, ComesTo, to_getfile, to_getport, after_call, getfile_call, getport_call}
+use Rattle.sd_rpc_retry.proofs.Rows.{row_then, row_here}
+use Rattle.sd_claims.specs.Booting.{Place, asks_name, asks_mount, End, no_mount, found_mount, step_at, call_at, leads_at, boot_way, getport_call, answer_of}
 use Rattle.sd_boot_chain.specs.declared.root.Unanswered.{Unanswered}
-use Rattle.sd_boot_chain.specs.Replies.{AllComeRight}
-use Rattle.sd_boot_chain.specs.Root.{Names, Places, HasNoAnswer, Stopped, CallsGave, CallsFrom}
-use Rattle.sd_boot_chain.proofs.Replying.{server_told, to_portmapper, first_right, second_right}
+use Rattle.sd_boot_chain.specs.Root.{Names, Places, HasNoAnswer, end_without, end_of, CallsFrom, CallsCame, answer_without, answer_to, IsCallsAnswer}
 
 abbrev asks : Addr → Ask → Call
 asks dst what = record { dst = dst; ask = what }
 
 -- a call has no answer
-pub no_answer : {T : Type 0} (shown : T → Answer) (old new : Option History) (caller : Caller) (dst : Addr) (what : Ask) (why : CallError) → IfOk (asked_as {T = T} (Err why)) (λ came. Moves old new (CameOf caller dst what shown came))
+pub no_answer : {T : Type 0} (shown : T → Answer) (old new : Option History) (caller : Caller) (dst : Addr) (what : Ask) (why : CallError) → IfOk (asked_as {T = T} (Err why)) (λ told. Moves old new (CameOf caller dst what shown told))
     → Lasts most_asking_ticks old new → Moves old new (λ h part. HasNoAnswer why (IsSettledBy h) caller (asks dst what) part)
 no_answer shown old new caller dst what error.Timeout m lasts = moves_weaker old new _ _ (λ h part k. k.came) m
 no_answer shown old new caller dst what error.Flood m lasts = moves_weaker old new _ _ (λ h part k. k.came) m
@@ -55,72 +55,75 @@ placed_by old new caller at dst what told there m = moves_weaker old new _ _ (λ
 
 -- ---- the calls of a boot
 
--- a refusal came from the server
-pub stopped_by : (c : Config) (why : CallError) (caller : Caller) (call : Call) (settled : List Step → Type 0) (part : List Step) → call.dst.port ≡ pmap_port → AllComeRight c part → HasNoAnswer why settled caller call part → Stopped c why settled caller call part
-stopped_by c error.Timeout caller call settled part at right k = k
-stopped_by c error.Flood caller call settled part at right k = k
-stopped_by c (error.Denied code) caller call settled part at right k = server_told c caller call (Err code) at settled part k right
-stopped_by c error.LinkFault caller call settled part at right k = k
-stopped_by c error.NoMemory caller call settled part at right k = tt
+-- a call without an answer ends the row
+ends_without : (why : CallError) (step : Stage) (at : Place) (caller : Caller) (settled : List Step → Type 0) (part : List Step) → step ≡ step_at at → HasNoAnswer why settled caller (call_at at) part
+    → IfSome (end_without step why) (λ end. Row boot_way CallTold settled at caller end (after_call caller) part)
+ends_without error.Timeout step at caller settled part is k = row_here boot_way CallTold settled at caller (timed_out step) part (is, k)
+ends_without error.Flood step at caller settled part is k = row_here boot_way CallTold settled at caller (flooded step) part (is, k)
+ends_without (error.Denied code) step at caller settled part is k = row_here boot_way CallTold settled at caller (denied step code) part (is, k)
+ends_without error.LinkFault step at caller settled part is k = row_here boot_way CallTold settled at caller (failed step) part (is, k)
+ends_without error.NoMemory step at caller settled part is k = tt
 
--- the boot ends at a call without an answer
-pub stops_at : (old new : Option History) (step : Stage) (caller : Caller) (call : Call) (found : Result ℕ Unanswered) (why : Unanswered) → found ≡ Err why → why.step ≡ step
-    → Moves old new (λ h part. HasNoAnswer why.error (IsSettledBy h) caller call part) → Moves old new (CallsFrom step caller call found)
-stops_at old new step caller call found why is at m =
-    subst (λ (r : Result ℕ Unanswered). Moves old new (CallsFrom step caller call r)) (sym is)
-    (moves_weaker old new (λ h part. HasNoAnswer why.error (IsSettledBy h) caller call part) (CallsFrom step caller call (Err why))
-    (λ h part k first n program before goes to right. record {
-      caller = caller;
-      call = call;
-      before = before;
-      last = part;
-      to = subst (λ (s : Stage). ComesTo (IsSettledBy first) first.config n program s caller call before) (sym at) to;
-      came_of =
-          stopped_by first.config why.error caller call (beyond (IsSettledBy first) before) part (to_portmapper (IsSettledBy first) first.config n program step caller call before to) right
-          (subst (λ (still : List Step → Type 0). HasNoAnswer why.error still caller call part) (settled-beyond first h before goes) k);
-      cut = refl;
-    })
-    m)
+pub stops_at : (old new : Option History) (at : Place) (caller next : Caller) (found : Result ℕ Unanswered) (why : Unanswered) → found ≡ Err why → why.step ≡ step_at at → next ≡ after_call caller
+    → Moves old new (λ h part. HasNoAnswer why.error (IsSettledBy h) caller (call_at at) part) → Moves old new (CallsFrom at caller found next)
+stops_at old new at caller next found why is step counted m =
+    subst (λ (r : Result ℕ Unanswered). Moves old new (CallsFrom at caller r next)) (sym is)
+    (subst (λ (c : Caller). Moves old new (CallsFrom at caller (Err why) c)) (sym counted)
+    (moves_weaker old new (λ h part. HasNoAnswer why.error (IsSettledBy h) caller (call_at at) part) (CallsFrom at caller (Err why) (after_call caller))
+    (λ h part k. ends_without why.error why.step at caller (IsSettledBy h) part step k) m))
 
 -- GETPORT was answered
-pub ends_with_port : (old new : Option History) (caller : Caller) (call : Call) (port : ℕ) → Moves old new (λ h part. CallTold (Ok (answers.Port port)) (IsSettledBy h) caller call part) → Moves old new (CallsFrom stage.Getport caller call (Ok port))
-ends_with_port old new caller call port m =
-    moves_weaker old new (λ h part. CallTold (Ok (answers.Port port)) (IsSettledBy h) caller call part) (CallsFrom stage.Getport caller call (Ok port))
-    (λ h part k first n program before goes to right. record {
-      caller = caller;
-      call = call;
-      before = before;
-      last = part;
-      to = to;
-      came_of =
-          server_told first.config caller call (Ok (answers.Port port)) (to_portmapper (IsSettledBy first) first.config n program stage.Getport caller call before to) (beyond (IsSettledBy first) before) part
-          (subst (λ (still : List Step → Type 0). CallTold (Ok (answers.Port port)) still caller call part) (settled-beyond first h before goes) k) right;
-      cut = refl;
-    })
-    m
+pub ends_with_port : (old new : Option History) (server : ℕ) (caller next : Caller) (port : ℕ) → next ≡ after_call caller → Moves old new (λ h part. CallTold (Ok (answers.Port port)) (IsSettledBy h) caller (getport_call server) part)
+    → Moves old new (CallsFrom (asks_mount server) caller (Ok port) next)
+ends_with_port old new server caller next port counted m =
+    subst (λ (c : Caller). Moves old new (CallsFrom (asks_mount server) caller (Ok port) c)) (sym counted)
+    (moves_weaker old new (λ h part. CallTold (Ok (answers.Port port)) (IsSettledBy h) caller (getport_call server) part) (CallsFrom (asks_mount server) caller (Ok port) (after_call caller))
+    (λ h part k. row_here boot_way CallTold (IsSettledBy h) (asks_mount server) caller _ part (answers.Port port, refl, k)) m)
 
--- WHOAMI was answered, and then this came of GETFILE
-pub after_whoami : (old mid new : Option History) (caller next : Caller) (call : Call) (from : ℕ) (client : List ℕ) (found : Result ℕ Unanswered) → next ≡ after_call caller
-    → Moves old mid (λ h part. Names from client (IsSettledBy h) caller call part) → Moves mid new (CallsFrom stage.Getfile next (getfile_call from client (codes "root")) found) → Moves old new (CallsFrom stage.Whoami caller call found)
-after_whoami old mid new caller next call from client found counted first second =
-    moves_then old mid new (λ h part. Names from client (IsSettledBy h) caller call part) (CallsFrom stage.Getfile next (getfile_call from client (codes "root")) found) (CallsFrom stage.Whoami caller call found)
-    (λ a b xs ys goes k m start n program before going to right.
-    let told =
-    server_told start.config caller call (Ok (answers.Whoami from client k.0 k.1)) (to_portmapper (IsSettledBy start) start.config n program stage.Whoami caller call before to) (beyond (IsSettledBy start) before) xs
-    (subst (λ (still : List Step → Type 0). CallTold (Ok (answers.Whoami from client k.0 k.1)) still caller call xs) (settled-beyond start a before going) k.2) (first_right start.config xs ys right) in
-    let comes = subst (λ (u : Caller). ComesTo (IsSettledBy start) start.config n program stage.Getfile u (getfile_call from client (codes "root")) (before ++ xs)) (sym counted) (to_getfile caller call before xs from client k.0 k.1 to told) in
-    subst (λ (l : List Step). CallsGave start n program found l) (append_assoc before xs ys) (m start n program (before ++ xs) (goes_then start a b before xs going goes) comes (second_right start.config xs ys right)))
-    first second
+-- what the call of a place was told, and where it leads
+abbrev pub LeadsTo : Place → Place → Caller → History → List Step → Type 0
+LeadsTo at next caller h part = (answer : Answer) × (leads_at at answer ≡ on next) × CallTold (Ok answer) (IsSettledBy h) caller (call_at at) part
 
--- GETFILE was answered, and then this came of GETPORT
-pub after_getfile : (old mid new : Option History) (caller next : Caller) (call : Call) (ip : ℕ) (found : Result ℕ Unanswered) → next ≡ after_call caller
-    → Moves old mid (λ h part. Places ip (IsSettledBy h) caller call part) → Moves mid new (CallsFrom stage.Getport next (getport_call ip) found) → Moves old new (CallsFrom stage.Getfile caller call found)
-after_getfile old mid new caller next call ip found counted first second =
-    moves_then old mid new (λ h part. Places ip (IsSettledBy h) caller call part) (CallsFrom stage.Getport next (getport_call ip) found) (CallsFrom stage.Getfile caller call found)
-    (λ a b xs ys goes k m start n program before going to right.
-    let told =
-    server_told start.config caller call (Ok (answers.Getfile k.0 k.1 ip k.2)) (to_portmapper (IsSettledBy start) start.config n program stage.Getfile caller call before to) (beyond (IsSettledBy start) before) xs
-    (subst (λ (still : List Step → Type 0). CallTold (Ok (answers.Getfile k.0 k.1 ip k.2)) still caller call xs) (settled-beyond start a before going) k.3) (first_right start.config xs ys right) in
-    let comes = subst (λ (u : Caller). ComesTo (IsSettledBy start) start.config n program stage.Getport u (getport_call ip) (before ++ xs)) (sym counted) (to_getport caller call before xs k.0 k.1 ip k.2 to told) in
-    subst (λ (l : List Step). CallsGave start n program found l) (append_assoc before xs ys) (m start n program (before ++ xs) (goes_then start a b before xs going goes) comes (second_right start.config xs ys right)))
-    first second
+row_more : (a b : History) (xs ys : List Step) (at to : Place) (caller last : Caller) (o : Option (RowEnd End)) → GoesOn a b xs → LeadsTo at to caller a xs → IfSome o (λ end. Row boot_way CallTold (IsSettledBy b) to (after_call caller) end last ys)
+    → IfSome o (λ end. Row boot_way CallTold (IsSettledBy a) at caller end last (xs ++ ys))
+row_more a b xs ys at to caller last None goes k m = tt
+row_more a b xs ys at to caller last (Some end) goes k m =
+    row_then boot_way CallTold (IsSettledBy a) at to caller last k.0 end xs ys k.2 k.1
+    (subst (λ (still : List Step → Type 0). Row boot_way CallTold still to (after_call caller) end last ys) (settled-beyond a b xs goes) m)
+
+-- the call of a place was answered, and then this came of those that follow
+pub after_answer : (old mid new : Option History) (at to : Place) (caller next last : Caller) (found : Result ℕ Unanswered) (P : History → List Step → Type 0) → next ≡ after_call caller → ((h : History) (part : List Step) → P h part → LeadsTo at to caller h part)
+    → Moves old mid P → Moves mid new (CallsFrom to next found last) → Moves old new (CallsFrom at caller found last)
+after_answer old mid new at to caller next last found P counted so first second =
+    moves_then old mid new P (CallsFrom to (after_call caller) found last) (CallsFrom at caller found last)
+    (λ a b xs ys goes k m. row_more a b xs ys at to caller last (end_of found) goes (so a xs k) m)
+    first (subst (λ (c : Caller). Moves mid new (CallsFrom to c found last)) counted second)
+
+-- ---- the answer
+
+ended_by : (old new : Option History) (caller next : Caller) (program : List ℕ) (answer : Told) (end : RowEnd End) → answer ≡ answer_of program end → Moves old new (λ h part. Row boot_way CallTold (IsSettledBy h) (asks_name caller.ip) caller end next part)
+    → Moves old new (IsCallsAnswer caller program answer next.next_xid)
+ended_by old new caller next program answer end is m =
+    moves_weaker old new (λ h part. Row boot_way CallTold (IsSettledBy h) (asks_name caller.ip) caller end next part) (IsCallsAnswer caller program answer next.next_xid)
+    (λ h part r. record { end = end; next = next; row = r; answered = is; counted = refl }) m
+
+abbrev Answers : Option History → Option History → Caller → Caller → List ℕ → Result Told NoMemory → Type 0
+Answers old new caller next program r = IfOk r (λ answer. Moves old new (IsCallsAnswer caller program answer next.next_xid))
+
+by_port : (old new : Option History) (caller next : Caller) (program : List ℕ) (b : Bool) → Moves old new (λ h part. Row boot_way CallTold (IsSettledBy h) (asks_name caller.ip) caller (came (cond b no_mount found_mount)) next part)
+    → Answers old new caller next program (cond b (Ok BootNoPort) (Ok (BootUnbuilt stage.Mnt program)))
+by_port old new caller next program true m = ended_by old new caller next program BootNoPort (came no_mount) refl m
+by_port old new caller next program false m = ended_by old new caller next program (BootUnbuilt stage.Mnt program) (came found_mount) refl m
+
+by_error : (old new : Option History) (caller next : Caller) (program : List ℕ) (step : Stage) (why : CallError) → Moves old new (λ h part. IfSome (end_without step why) (λ end. Row boot_way CallTold (IsSettledBy h) (asks_name caller.ip) caller end next part))
+    → Answers old new caller next program (answer_without step why)
+by_error old new caller next program step error.Timeout m = ended_by old new caller next program (BootTimeout step) (timed_out step) refl m
+by_error old new caller next program step error.Flood m = ended_by old new caller next program (BootFlood step) (flooded step) refl m
+by_error old new caller next program step (error.Denied code) m = ended_by old new caller next program (BootDenied step code) (denied step code) refl m
+by_error old new caller next program step error.LinkFault m = ended_by old new caller next program BootLinkFault (failed step) refl m
+by_error old new caller next program step error.NoMemory m = tt
+
+-- what came of the calls gives the answer
+pub calls_answer : (old new : Option History) (caller next : Caller) (program : List ℕ) (found : Result ℕ Unanswered) → Moves old new (CallsCame caller found next) → Answers old new caller next program (answer_to program found)
+calls_answer old new caller next program (Ok port) m = by_port old new caller next program (port == 0) m
+calls_answer old new caller next program (Err why) m = by_error old new caller next program why.step why.error m

@@ -2,13 +2,12 @@
 use Rattle.std.proofs.Common.{◌≡◌, ℕ, ◌+◌, ◌≤◌, List, [], ◌∷◌, ◌++◌, take, Option, refl, sym, ◌∙◌, ap, subst, append_assoc, arith}
 use Rattle.std.proofs.lemmas.Grind.{flat_map-append}
 use Rattle.std.proofs.lemmas.List.{append-nil}
-use Rattle.sd_outside.specs.Streams.{Gains}
-use Rattle.sd_link.specs.Lawful.{IsFrontOf}
+use Rattle.sd_outside.specs.Streams.{Gains, IsPrefixOf}
 use Rattle.sd_config.specs.declared.command.Command.{Command}
 use Rattle.sd_script.specs.Answers.{answer_line}
 use Rattle.sd_claims.specs.AnyLink.{IsMet, Needs, FaultIsCounted}
-use Rattle.sd_claims.specs.Wrote.{Counted, Said, AllNeeded, counted_after, lines_of, text_of, Wrote, WroteFront}
-use Rattle.sd_streams.specs.Writing.{GainsFront}
+use Rattle.sd_claims.specs.Wrote.{Counted, Said, AllNeeded, counted_after, lines_of, text_of, Wrote, WrotePrefix}
+use Rattle.sd_streams.specs.Writing.{GainsPrefix}
 use Rattle.sd_boot_chain.specs.Step.{IsSaid}
 use Rattle.sd_streams.proofs.Gaining.{gains_then, gains_nothing}
 
@@ -68,7 +67,7 @@ module _ (long : ℕ) (commands : List Command) (command : Command) (before mid 
   }
 
   -- the text was written in part
-  pub wrote_part : (all : List Command) (n : ℕ) (s2 : Option (List ℕ)) → take (n + 1) all ≡ commands ++ command ∷ [] → GainsFront s1 s2 text → WroteFront long all before now d0 d2 s0 s2
+  pub wrote_part : (all : List Command) (n : ℕ) (s2 : Option (List ℕ)) → take (n + 1) all ≡ commands ++ command ∷ [] → GainsPrefix s1 s2 text → WrotePrefix long all before now d0 d2 s0 s2
   wrote_part all n s2 these gained = record {
     count = n + 1;
     said = more;
@@ -77,14 +76,16 @@ module _ (long : ℕ) (commands : List Command) (command : Command) (before mid 
     clock = let e = ap (λ (k : Counted). k.clock) counts in omega (arith, e);
     faults = let e = ap (λ (k : Counted). k.faults) counts in omega (arith, e);
     drained = ([], append-nil (d0 ++ lines_of more) ∙ sym drained);
-    front = text_of w.said ++ gained.0;
-    short = (gained.1.0, append_assoc (text_of w.said) gained.0 gained.1.0 ∙ ap (λ (l : List ℕ). text_of w.said ++ l) gained.1.1 ∙ sym whole);
-    text = gains_then s0 s1 s2 (text_of w.said) gained.0 w.text gained.2;
+    text = (
+      text_of w.said ++ gained.0,
+      (gained.1.0, append_assoc (text_of w.said) gained.0 gained.1.0 ∙ ap (λ (l : List ℕ). text_of w.said ++ l) gained.1.1 ∙ sym whole),
+      gains_then s0 s1 s2 (text_of w.said) gained.0 w.text gained.2,
+    );
   }
 
 -- the next command ended without an answer
-pub wrote_cut : (long : ℕ) (commands : List Command) (n : ℕ) (before mid now : Counted) (d0 d1 d2 : List ℕ) (s0 s1 : Option (List ℕ)) → Wrote long (take n commands) before mid d0 d1 s0 s1 → mid.handed ≤ now.handed → mid.clock ≤ now.clock → mid.faults ≤ now.faults → IsFrontOf d1 d2
-    → WroteFront long commands before now d0 d2 s0 s1
+pub wrote_cut : (long : ℕ) (commands : List Command) (n : ℕ) (before mid now : Counted) (d0 d1 d2 : List ℕ) (s0 s1 : Option (List ℕ)) → Wrote long (take n commands) before mid d0 d1 s0 s1 → mid.handed ≤ now.handed → mid.clock ≤ now.clock → mid.faults ≤ now.faults → IsPrefixOf d1 d2
+    → WrotePrefix long commands before now d0 d2 s0 s1
 wrote_cut long commands n before mid now d0 d1 d2 s0 s1 w handed clock faults front = record {
   count = n;
   said = w.said;
@@ -93,7 +94,5 @@ wrote_cut long commands n before mid now d0 d1 d2 s0 s1 w handed clock faults fr
   clock = let e = ap (λ (k : Counted). k.clock) w.counts in omega (arith, e, clock);
   faults = let e = ap (λ (k : Counted). k.faults) w.counts in omega (arith, e, faults);
   drained = (front.0, ap (λ (l : List ℕ). l ++ front.0) (sym w.drained) ∙ front.1);
-  front = text_of w.said;
-  short = ([], append-nil (text_of w.said));
-  text = w.text;
+  text = (text_of w.said, ([], append-nil (text_of w.said)), w.text);
 }

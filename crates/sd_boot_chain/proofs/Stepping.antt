@@ -13,17 +13,17 @@ use Rattle.sd_link.specs.Steps.{Step, Entry, History, world_of, whole_record, re
 use Rattle.sd_link.specs.Printing.{record_text, entry_text}
 use Rattle.sd_link.specs.Link.{GoesOn, Moves, IsDrained, IsAtRest, IsAtRestBy, IsSettledBy}
 use Rattle.sd_link.specs.Tries.{beyond}
-use Rattle.sd_rpc_retry.proofs.Settling.{settled-beyond}
-use Rattle.sd_link.proofs.Histories.{record-append, record-goes, run-append, world-goes, rests-goes, rests-then, moves_weaker}
+use Rattle.sd_rpc_retry.proofs.Settling.{beyond-both, settled-beyond}
+use Rattle.sd_link.proofs.Histories.{goes_then, record-append, record-goes, run-append, world-goes, rests-goes, rests-then, moves_weaker}
 use Rattle.sd_config.specs.declared.command.Command.{Command}
 use Rattle.sd_config.specs.declared.told.Told.{Told}
 use Rattle.sd_script.specs.Answers.{answer_line}
-use Rattle.sd_claims.specs.Causes.{IsCaused, CountsOn}
+use Rattle.sd_claims.specs.Causes.{IsCaused}
 use Rattle.sd_claims.specs.Booting.{Counts, first_counts}
 use Rattle.sd_claims.specs.Ending.{Ends, EndsAfter, AllEnd}
 use Rattle.sd_claims.specs.Transcript.{Done, transcript, AllCaused}
 use Rattle.sd_claims.specs.Session.{IsSession, IsCutSession, parts_of}
-use Rattle.sd_streams.specs.Writing.{GainsFront}
+use Rattle.sd_streams.specs.Writing.{GainsPrefix}
 use Rattle.sd_boot_chain.specs.Step.{ClientView, HasCounted, IsStep, IsAnswered, IsDone}
 use Rattle.sd_streams.proofs.Gaining.{gains_then, gains_nothing}
 
@@ -78,21 +78,15 @@ counts-push : (n : Counts) (done : List Done) (d : Done) → counts_done n (done
 counts-push n [] d = refl
 counts-push n (e ∷ es) d = counts-push e.counts es d
 
--- beyond one part and then another
-beyond-both : (settled : List Step → Type 0) (xs ys : List Step) → beyond settled (xs ++ ys) ≡ beyond (beyond settled xs) ys
-beyond-both settled xs ys = λ i steps. settled (append_assoc xs ys steps i)
-
 caused-push : (settled : List Step → Type 0) (c : Config) (n : Counts) (commands : List Command) (command : Command) (done : List Done) (d : Done) → AllCaused settled c n commands done
-    → IsCaused (beyond settled (parts_of done)) c (counts_done n done) command d.answer d.part → CountsOn (beyond settled (parts_of done)) c (counts_done n done) d.answer d.part d.counts → AllCaused settled c n (commands ++ command ∷ []) (done ++ d ∷ [])
-caused-push settled c n [] command [] d all one on = (one, on, tt)
-caused-push settled c n [] command (e ∷ es) d all one on = absurd all
-caused-push settled c n (k ∷ ks) command [] d all one on = absurd all
-caused-push settled c n (k ∷ ks) command (e ∷ es) d all one on = (
+    → IsCaused (beyond settled (parts_of done)) c (counts_done n done) command d.answer d.counts d.part → AllCaused settled c n (commands ++ command ∷ []) (done ++ d ∷ [])
+caused-push settled c n [] command [] d all one = (one, tt)
+caused-push settled c n [] command (e ∷ es) d all one = absurd all
+caused-push settled c n (k ∷ ks) command [] d all one = absurd all
+caused-push settled c n (k ∷ ks) command (e ∷ es) d all one = (
   all.0,
-  all.1,
-  caused-push (beyond settled e.part) c e.counts ks command es d all.2
-      (subst (λ (still : List Step → Type 0). IsCaused still c (counts_done e.counts es) command d.answer d.part) (beyond-both settled e.part (parts_of es)) one)
-      (subst (λ (still : List Step → Type 0). CountsOn still c (counts_done e.counts es) d.answer d.part d.counts) (beyond-both settled e.part (parts_of es)) on),
+  caused-push (beyond settled e.part) c e.counts ks command es d all.1
+      (subst (λ (still : List Step → Type 0). IsCaused still c (counts_done e.counts es) command d.answer d.counts d.part) (beyond-both settled e.part (parts_of es)) one),
 )
 
 -- one command's text
@@ -139,22 +133,27 @@ session_ends a b xs ys goes done answer counts cut all one =
     (subst (λ (e : Events). Ends a.config (fates_of e) (world_of b) (whole_record b) answer ys) goes.events
     (subst (λ (c : Config). Ends c (fates_of b.events) (world_of b) (whole_record b) answer ys) goes.config one)))))
 
--- a session so far, and the client after it
-pub record SessionAt (commands : List Command) (before after : Option (List ℕ)) (client : ClientView) (old : History) (part : List Step) : Type 0 where
-  pub session : IsSession commands before after old part
+-- a session so far, and the client after it; what was drained goes on being all
+pub record SessionAt (commands : List Command) (drained drained_now : List ℕ) (before after : Option (List ℕ)) (client : ClientView) (old : History) (part : List Step) : Type 0 where
+  pub session : IsSession commands drained before after old part
   pub counted : HasCounted client (counts_done first_counts session.done)
+  pub kept : drained ≡ record_text (whole_record old) → drained_now ≡ record_text (whole_record old ++ record_of old.config (world_of old) part)
 
-pub session_none : (told : Option (List ℕ)) (h : History) → IsSession [] told told h []
-session_none told h = record { done = []; cut = refl; caused = tt; ended = tt; rests = inl refl; text = gains_nothing told }
+pub session_none : (drained : List ℕ) (told : Option (List ℕ)) (h : History) → IsSession [] drained told told h []
+session_none drained told h = record { done = []; cut = refl; caused = tt; ended = tt; rests = inl refl; text = λ all. gains_nothing told }
 
-pub session_first : (told : Option (List ℕ)) (client : ClientView) (h : History) → HasCounted client first_counts → SessionAt [] told told client h []
+pub session_first : (drained : List ℕ) (told : Option (List ℕ)) (client : ClientView) (h : History) → HasCounted client first_counts → SessionAt [] drained drained told told client h []
 unfolding session_none
-session_first told client h fresh = record { session = session_none told h; counted = fresh }
+session_first drained told client h fresh = record {
+  session = session_none drained told h;
+  counted = fresh;
+  kept = λ all. all ∙ ap record_text (sym (append-nil (whole_record h)));
+}
 
 -- a command more, with its cause and its text
-module _ (client : ClientView) (commands : List Command) (command : Command) (before mid : Option (List ℕ)) (drained text : List ℕ) (next : ClientView) (a b : History) (xs ys : List Step)
-    (goes : GoesOn a b xs) (is_for : IsFor a.config client.config) (s : SessionAt commands before mid client a xs) (was : drained ≡ record_text (whole_record b)) (t : IsStep client command drained text next b ys) where
-  answered : (counts : Counts) × IsAnswered (counts_done first_counts s.session.done) command t.answer b ys × CountsOn (IsSettledBy b) b.config (counts_done first_counts s.session.done) t.answer ys counts × HasCounted next counts
+module _ (client : ClientView) (commands : List Command) (command : Command) (first : List ℕ) (before mid : Option (List ℕ)) (drained text : List ℕ) (next : ClientView) (a b : History) (xs ys : List Step)
+    (goes : GoesOn a b xs) (is_for : IsFor a.config client.config) (s : SessionAt commands first drained before mid client a xs) (t : IsStep client command drained text next b ys) where
+  answered : (counts : Counts) × IsAnswered (counts_done first_counts s.session.done) command t.answer counts b ys × HasCounted next counts
   answered = t.answered (subst (λ (c : Config). IsFor c client.config) (sym goes.config) is_for) (counts_done first_counts s.session.done) s.counted
 
   last : Done
@@ -166,10 +165,10 @@ module _ (client : ClientView) (commands : List Command) (command : Command) (be
   line : List ℕ
   line = text_of a.config (run a.config (world_of a) (parts_of s.session.done)) last
 
-  shown : text ≡ line
+  shown : first ≡ record_text (whole_record a) → text ≡ line
   unfolding last line
-  shown =
-      t.shown was
+  shown all =
+      t.shown (s.kept all ∙ ap record_text (sym (record-goes a b xs goes)))
       ∙ ap (λ (c : Config). text_of c (world_of b) last) goes.config
       ∙ ap (λ (w : World). text_of a.config w last) (world-goes a b xs goes ∙ ap (λ (l : List Step). run a.config (world_of a) l) s.session.cut)
 
@@ -177,12 +176,9 @@ module _ (client : ClientView) (commands : List Command) (command : Command) (be
   unfolding last
   caused =
       caused-push (IsSettledBy a) a.config first_counts commands command s.session.done last s.session.caused
-      (subst (λ (l : List Step). IsCaused (beyond (IsSettledBy a) l) a.config (counts_done first_counts s.session.done) command t.answer ys) s.session.cut
-      (subst (λ (still : List Step → Type 0). IsCaused still a.config (counts_done first_counts s.session.done) command t.answer ys) (settled-beyond a b xs goes)
-      (subst (λ (c : Config). IsCaused (IsSettledBy b) c (counts_done first_counts s.session.done) command t.answer ys) goes.config answered.1.caused)))
-      (subst (λ (l : List Step). CountsOn (beyond (IsSettledBy a) l) a.config (counts_done first_counts s.session.done) t.answer ys answered.0) s.session.cut
-      (subst (λ (still : List Step → Type 0). CountsOn still a.config (counts_done first_counts s.session.done) t.answer ys answered.0) (settled-beyond a b xs goes)
-      (subst (λ (c : Config). CountsOn (IsSettledBy b) c (counts_done first_counts s.session.done) t.answer ys answered.0) goes.config answered.2)))
+      (subst (λ (l : List Step). IsCaused (beyond (IsSettledBy a) l) a.config (counts_done first_counts s.session.done) command t.answer answered.0 ys) s.session.cut
+      (subst (λ (still : List Step → Type 0). IsCaused still a.config (counts_done first_counts s.session.done) command t.answer answered.0 ys) (settled-beyond a b xs goes)
+      (subst (λ (c : Config). IsCaused (IsSettledBy b) c (counts_done first_counts s.session.done) command t.answer answered.0 ys) goes.config answered.1.caused)))
 
   ended : AllEnd a.config (fates_of a.events) (world_of a) (whole_record a) (s.session.done ++ last ∷ [])
   unfolding last
@@ -199,22 +195,23 @@ module _ (client : ClientView) (commands : List Command) (command : Command) (be
   unfolding last so_far line
   whole = transcript-push a.config (world_of a) s.session.done last
 
-  pub session_more : (after : Option (List ℕ)) → Gains mid after text → SessionAt (commands ++ command ∷ []) before after next a (xs ++ ys)
+  pub session_more : (n : History) (drained_now : List ℕ) (after : Option (List ℕ)) → GoesOn b n ys → drained_now ≡ record_text (whole_record n) → Gains mid after text → SessionAt (commands ++ command ∷ []) first drained_now before after next a (xs ++ ys)
   unfolding last so_far
-  session_more after gained = record {
+  session_more n drained_now after on is gained = record {
     session = record {
       done = s.session.done ++ last ∷ [];
       cut = cut;
       caused = caused;
       ended = ended;
       rests = rested;
-      text = subst (λ (l : List ℕ). Gains before after l) (sym whole) (gains_then before mid after so_far line s.session.text (subst (λ (l : List ℕ). Gains mid after l) shown gained));
+      text = λ all. subst (λ (l : List ℕ). Gains before after l) (sym whole) (gains_then before mid after so_far line (s.session.text all) (subst (λ (l : List ℕ). Gains mid after l) (shown all) gained));
     };
-    counted = subst (HasCounted next) (sym (counts-push first_counts s.session.done last)) answered.3;
+    counted = subst (HasCounted next) (sym (counts-push first_counts s.session.done last)) answered.2;
+    kept = λ all. is ∙ ap record_text (record-goes a n (xs ++ ys) (goes_then a b n xs ys goes on));
   }
 
   -- a command whose text was written in part
-  pub session_stops : (all : List Command) (n : ℕ) (after : Option (List ℕ)) → take (n + 1) all ≡ commands ++ command ∷ [] → GainsFront mid after text → IsCutSession all before after a (xs ++ ys)
+  pub session_stops : (all : List Command) (n : ℕ) (after : Option (List ℕ)) → take (n + 1) all ≡ commands ++ command ∷ [] → GainsPrefix mid after text → IsCutSession all first before after a (xs ++ ys)
   unfolding last so_far
   session_stops all n after more gained = record {
     count = n + 1;
@@ -224,16 +221,18 @@ module _ (client : ClientView) (commands : List Command) (command : Command) (be
     caused = subst (λ (l : List Command). AllCaused (IsSettledBy a) a.config first_counts l (s.session.done ++ last ∷ [])) (sym more) caused;
     ended = ended;
     rests = rested;
-    front = so_far ++ gained.0;
-    short = (gained.1.0, append_assoc so_far gained.0 gained.1.0 ∙ ap (λ (l : List ℕ). so_far ++ l) (gained.1.1 ∙ shown) ∙ sym whole);
-    text = gains_then before mid after so_far gained.0 s.session.text gained.2;
+    text = λ drained_first. (
+      so_far ++ gained.0,
+      (gained.1.0, append_assoc so_far gained.0 gained.1.0 ∙ ap (λ (l : List ℕ). so_far ++ l) (gained.1.1 ∙ shown drained_first) ∙ sym whole),
+      gains_then before mid after so_far gained.0 (s.session.text drained_first) gained.2,
+    );
   }
 
 -- ---- a session that ends early
 
 -- a command that ended without an answer
-pub session_cut : (commands : List Command) (n : ℕ) (before mid : Option (List ℕ)) (a : History) (xs ys : List Step) → IsSession (take n commands) before mid a xs → IsCutSession commands before mid a (xs ++ ys)
-session_cut commands n before mid a xs ys s = record {
+pub session_cut : (commands : List Command) (n : ℕ) (drained : List ℕ) (before mid : Option (List ℕ)) (a : History) (xs ys : List Step) → IsSession (take n commands) drained before mid a xs → IsCutSession commands drained before mid a (xs ++ ys)
+session_cut commands n drained before mid a xs ys s = record {
   count = n;
   done = s.done;
   more = ys;
@@ -241,7 +240,5 @@ session_cut commands n before mid a xs ys s = record {
   caused = s.caused;
   ended = s.ended;
   rests = s.rests;
-  front = transcript a.config (world_of a) s.done;
-  short = ([], append-nil (transcript a.config (world_of a) s.done));
-  text = s.text;
+  text = λ all. (transcript a.config (world_of a) s.done, ([], append-nil (transcript a.config (world_of a) s.done)), s.text all);
 }

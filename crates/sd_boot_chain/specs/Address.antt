@@ -17,4 +17,4 @@ shows_learned found = record { address = found.address; responder = found.respon
 
 -- the answer has its cause, whatever was counted before, and the command ends as it says
 abbrev pub IsAddrAnswer : ClientConfig → Told → History → List Step → Type 0
-IsAddrAnswer client answer old part = IsFor old.config client → ((n : Counts) → Cause (IsSettledBy old) old.config n Addr answer part) × EndsAfter old answer part
+IsAddrAnswer client answer old part = IsFor old.config client → ((n : Counts) → Cause (IsSettledBy old) old.config n Addr answer n part) × EndsAfter old answer part

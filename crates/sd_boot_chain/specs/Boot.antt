@@ -10,7 +10,7 @@ use Rattle.sd_config.specs.declared.told.Told.{Told}
 use Rattle.sd_claims.specs.Rarp.{Learned}
 use Rattle.sd_claims.specs.Fetching.{Fetch}
 use Rattle.sd_claims.specs.Booting.{Counts, LearnsAddress}
-use Rattle.sd_claims.specs.Causes.{Cause, CountsOn}
+use Rattle.sd_claims.specs.Causes.{Cause}
 use Rattle.sd_boot_chain.specs.Replies.{AllComeRight}
 use Rattle.sd_boot_chain.specs.Step.{ClientView, HasCounted}
 
@@ -34,4 +34,4 @@ abbrev pub IsBootAnswer : ClientView → Learned → Told → ClientView → His
 IsBootAnswer client learned answer next old part =
     (first : History) (address : List Step) → GoesOn first old address → IsFor first.config client.config → (n : Counts) → HasCounted client n → LearnsAddress (IsSettledBy first) first.config learned address
     → AllComeRight first.config (address ++ part)
-    → (counts : Counts) × Cause (IsSettledBy first) first.config n Boot answer (address ++ part) × CountsOn (IsSettledBy first) first.config n answer (address ++ part) counts × HasCounted next counts
+    → (counts : Counts) × Cause (IsSettledBy first) first.config n Boot answer counts (address ++ part) × HasCounted next counts

@@ -1,5 +1,5 @@
 -- How often the link failed: once, where an outcome says so.
-use Rattle.std.specs.Prelude.{ℕ, Result, Ok, Err}
+use Rattle.std.specs.Prelude.{◌≡◌, ℕ, Result, Ok, Err}
 use Rattle.sd_outside.specs.declared.errors.NoMemory.{NoMemory}
 use Rattle.sd_config.specs.declared.told.Told.{Told}
 use Rattle.sd_rpc_retry.specs.declared.calling.CallError.{CallError}
@@ -23,6 +23,9 @@ fetch_fails (Ok (came.Refused code)) = 0
 fetch_fails (Ok (came.TooLarge got)) = 0
 fetch_fails (Ok came.Fault) = 1
 fetch_fails (Err none) = 0
+
+abbrev pub IsFetchFault : outcomes.Fetched → Type 0
+IsFetchFault came = fetch_fails (Ok came) ≡ 1
 
 abbrev pub error_fails : CallError → ℕ
 error_fails error.LinkFault = 1

@@ -52,10 +52,6 @@ CameOf f (came.Refused code) old part = FetchRefused code (IsSettledBy old) f pa
 CameOf f (came.TooLarge got) old part = FetchTooLarge got (IsSettledBy old) f part
 CameOf f came.Fault old part = FetchFailed (IsSettledBy old) f part
 
-abbrev pub IsFetchFault : outcomes.Fetched → Type 0
-IsFetchFault came.Fault = Unit {0}
-IsFetchFault what = ⊥
-
 -- The world is one of the configuration, the server is asked, no other file was ever asked for from this address and port, and
 -- nothing of a message's size was ever sent from there to the RPC programs.
 pub record MayTrust (f : Fetch) (old : History) : Type 0 where

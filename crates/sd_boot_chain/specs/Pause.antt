@@ -3,7 +3,7 @@ use Rattle.std.specs.Prelude.{◌≡◌, ℕ, ◌<◌, ◌≤◌, List, [], ◌�
 use Rattle.sd_link.specs.Steps.{Step, Fail, History, world_of, run}
 use Rattle.sd_link.specs.Parts.{sends_in, got_in}
 use Rattle.sd_link.specs.Link.{IsSettledBy}
-use Rattle.sd_link.specs.Tries.{flood_limit}
+use Rattle.sd_link.specs.Tries.{EndsWithPacket, flood_limit}
 use Rattle.sd_config.specs.declared.command.Command.TheVariants.{Wait}
 use Rattle.sd_config.specs.declared.told.Told.{Told}
 use Rattle.sd_claims.specs.Booting.{Counts}
@@ -16,7 +16,7 @@ use Rattle.sd_boot_chain.specs.declared.pause.Pause.TheVariants.{Over, Flood, Fa
 
 abbrev pub Ended : ℕ → Pause → History → List Step → Type 0
 Ended until Over old part = (until ≤ (run old.config (world_of old) part).tick) × (length (got_in part) < flood_limit) × IsSettledBy old part
-Ended until Flood old part = length (got_in part) ≡ flood_limit
+Ended until Flood old part = (length (got_in part) ≡ flood_limit) × EndsWithPacket (λ packet. []) part
 Ended until Fault old part = (length (got_in part) < flood_limit) × (before : List Step) × (part ≡ before ++ Fail ∷ [])
 
 -- the client only gets packets, until this tick
@@ -32,4 +32,4 @@ IsPause ticks Fault old part = WaitFailed ticks part
 
 -- the answer has its cause, whatever was counted before, and the command ends as it says
 abbrev pub IsWaitAnswer : ℕ → Told → History → List Step → Type 0
-IsWaitAnswer ticks answer old part = ((n : Counts) → Cause (IsSettledBy old) old.config n (Wait ticks) answer part) × EndsAfter old answer part
+IsWaitAnswer ticks answer old part = ((n : Counts) → Cause (IsSettledBy old) old.config n (Wait ticks) answer n part) × EndsAfter old answer part

@@ -1,20 +1,18 @@
 -- What came of the calls that follow the boot program, in the code's words and in the standard's.
-use Rattle.std.specs.Prelude.{◌≡◌, ℕ, ◌+◌, ◌==◌, if◌then◌else◌, List, ◌++◌, Result, Ok, Err}
+use Rattle.std.specs.Prelude.{◌≡◌, ℕ, ◌==◌, if◌then◌else◌, List, Option, Some, None, Result, Ok, Err, IfSome}
 use Rattle.sd_outside.specs.declared.errors.NoMemory.{NoMemory}
-use Rattle.sd_config.specs.declared.config.Config.{Config}
 use Rattle.sd_config.specs.declared.stage.Stage.{Stage}
 use Rattle.sd_config.specs.declared.stage.Stage.TheVariants as stage
 use Rattle.sd_link.specs.Steps.{Step, History}
-use Rattle.sd_link.specs.Link.{GoesOn, IsSettledBy}
+use Rattle.sd_link.specs.Link.{IsSettledBy}
 use Rattle.sd_rpc_retry.specs.declared.calling.Answer.TheVariants as answers
 use Rattle.sd_rpc_retry.specs.declared.calling.CallError.{CallError}
 use Rattle.sd_rpc_retry.specs.declared.calling.CallError.TheVariants as error
 use Rattle.sd_rpc_retry.specs.declared.calling.Caller.{Caller}
+use Rattle.sd_rpc_retry.specs.Chain.{Call, CallTold, CallTimedOut, CallFlooded, CallFailed, RowEnd, came, timed_out, flooded, denied, failed, Row}
 use Rattle.sd_config.specs.declared.told.Told.{Told}
 use Rattle.sd_config.specs.declared.told.Told.TheVariants.{BootUnbuilt, BootTimeout, BootFlood, BootDenied, BootNoPort, BootLinkFault}
-use Rattle.sd_claims.specs.Booting.{Counts, Call, CallTold, ServerTold, CallTimedOut, CallFlooded, CallFailed, ComesTo, OfCall, whoami_call}
-use Rattle.sd_claims.specs.Causes.{calls_at}
-use Rattle.sd_boot_chain.specs.Replies.{AllComeRight}
+use Rattle.sd_claims.specs.Booting.{Place, asks_name, End, no_mount, found_mount, boot_way, answer_of}
 use Rattle.sd_boot_chain.specs.declared.root.Unanswered.{Unanswered}
 
 -- ---- one call
@@ -42,32 +40,26 @@ CallCame shows caller call (Err why) old part = HasNoAnswer why.error (IsSettled
 
 -- ---- all calls
 
--- why a call of a boot has none: a refusal came from the server
-abbrev pub Stopped : Config → CallError → (List Step → Type 0) → Caller → Call → List Step → Type 0
-Stopped c error.Timeout settled caller call part = CallTimedOut settled caller call part
-Stopped c error.Flood settled caller call part = CallFlooded settled caller call part
-Stopped c (error.Denied code) settled caller call part = ServerTold c (Err code) settled caller call part
-Stopped c error.LinkFault settled caller call part = CallFailed settled caller call part
-Stopped c error.NoMemory settled caller call part = Unit {0}
+-- how the row of calls ended at this step; nothing is said of running out of memory
+abbrev pub end_without : Stage → CallError → Option (RowEnd End)
+end_without step error.Timeout = Some (timed_out step)
+end_without step error.Flood = Some (flooded step)
+end_without step (error.Denied code) = Some (denied step code)
+end_without step error.LinkFault = Some (failed step)
+end_without step error.NoMemory = None
 
--- the port that GETPORT told, or the call that has no answer
-abbrev pub CallsGave : History → Counts → List ℕ → Result ℕ Unanswered → List Step → Type 0
-CallsGave first n program (Ok port) whole = OfCall (IsSettledBy first) first.config n program stage.Getport (ServerTold first.config (Ok (answers.Port port))) whole
-CallsGave first n program (Err why) whole = OfCall (IsSettledBy first) first.config n program why.step (Stopped first.config why.error) whole
+-- with the port that GETPORT told, or at a call that has no answer
+abbrev pub end_of : Result ℕ Unanswered → Option (RowEnd End)
+end_of (Ok port) = Some (came (if port == 0 then no_mount else found_mount))
+end_of (Err why) = end_without why.step why.error
 
--- Whatever boot came to this call in the steps before, this came of its calls from there on, where what comes in them is right.
-abbrev pub CallsFrom : Stage → Caller → Call → Result ℕ Unanswered → History → List Step → Type 0
-CallsFrom step caller call found old part =
-    (first : History) (n : Counts) (program : List ℕ) (before : List Step) → GoesOn first old before → ComesTo (IsSettledBy first) first.config n program step caller call before → AllComeRight first.config part → CallsGave first n program found (before ++ part)
+-- From this place and caller on this came of the calls, and who would call next is this.
+abbrev pub CallsFrom : Place → Caller → Result ℕ Unanswered → Caller → History → List Step → Type 0
+CallsFrom at caller found next old part = IfSome (end_of found) (λ end. Row boot_way CallTold (IsSettledBy old) at caller end next part)
 
 -- from WHOAMI on
-abbrev pub CallsCame : Caller → Result ℕ Unanswered → History → List Step → Type 0
-CallsCame caller found old part = CallsFrom stage.Whoami caller (whoami_call caller.ip) found old part
-
--- how many were made
-abbrev pub calls_of : Result ℕ Unanswered → ℕ
-calls_of (Ok port) = 3
-calls_of (Err why) = calls_at why.step
+abbrev pub CallsCame : Caller → Result ℕ Unanswered → Caller → History → List Step → Type 0
+CallsCame caller found next old part = CallsFrom (asks_name caller.ip) caller found next old part
 
 -- ---- the answer
 
@@ -85,7 +77,8 @@ answer_to program (Err why) = answer_without why.step why.error
 
 -- The boot was answered so, by what came of its calls, and this is the number of the next call.
 pub record IsCallsAnswer (caller : Caller) (program : List ℕ) (answer : Told) (next_xid : ℕ) (old : History) (part : List Step) : Type 0 where
-  pub found : Result ℕ Unanswered
-  pub came : CallsCame caller found old part
-  pub answered : answer_to program found ≡ Ok answer
-  pub counted : next_xid ≡ caller.next_xid + calls_of found
+  pub end : RowEnd End
+  pub next : Caller
+  pub row : Row boot_way CallTold (IsSettledBy old) (asks_name caller.ip) caller end next part
+  pub answered : answer ≡ answer_of program end
+  pub counted : next_xid ≡ next.next_xid

@@ -11,7 +11,7 @@ use Rattle.sd_config.specs.declared.told.Told.{Told}
 use Rattle.sd_script.specs.Answers.{answer_line}
 use Rattle.sd_claims.specs.AnyLink.{IsMet, Needs, FaultIsCounted}
 use Rattle.sd_claims.specs.Booting.{Counts}
-use Rattle.sd_claims.specs.Causes.{IsCaused, CountsOn}
+use Rattle.sd_claims.specs.Causes.{IsCaused}
 use Rattle.sd_claims.specs.Ending.{EndsAfter}
 use Rattle.sd_claims.specs.Wrote.{Counted}
 
@@ -25,15 +25,15 @@ pub record ClientView : Type 0 where
 abbrev pub HasCounted : ClientView → Counts → Type 0
 HasCounted client n = (client.boots ≡ n.boots % 32768) × (client.next_xid ≡ n.next_xid)
 
--- the answer has its cause, where the client counted so much before, and the command ends so
-pub record IsAnswered (n : Counts) (command : Command) (answer : Told) (old : History) (part : List Step) : Type 0 where
-  pub caused : IsCaused (IsSettledBy old) old.config n command answer part
+-- the answer has its cause, where the client counted so much before and after, and the command ends so
+pub record IsAnswered (n : Counts) (command : Command) (answer : Told) (counts : Counts) (old : History) (part : List Step) : Type 0 where
+  pub caused : IsCaused (IsSettledBy old) old.config n command answer counts part
   pub ended : EndsAfter old answer part
 
 -- A client of this configuration did the command: whatever it had counted, the answer has its cause, and it counts on from there.
 abbrev pub IsDone : ClientView → Command → Told → ClientView → History → List Step → Type 0
 IsDone client command answer next old part =
-    IsFor old.config client.config → (n : Counts) → HasCounted client n → (counts : Counts) × IsAnswered n command answer old part × CountsOn (IsSettledBy old) old.config n answer part counts × HasCounted next counts
+    IsFor old.config client.config → (n : Counts) → HasCounted client n → (counts : Counts) × IsAnswered n command answer counts old part × HasCounted next counts
 
 -- Where the record was drained before, the text is the new lines and the answer line. The server is done with the tick at which the
 -- command ended.

@@ -7,9 +7,9 @@ ghost use Rattle.sd_tftp.specs.ReceiverTurn.{turn};
 ghost use Rattle.sd_claims.specs.Fetching.{tftp_from, read_request, acknowledge, turn_away};
 ghost use Rattle.sd_rpc_retry.specs.Asking.{IsNoMatch};
 ghost use Rattle.sd_rpc_retry.specs.Lasting.{Lasts, Fails};
-ghost use Rattle.sd_boot_chain.specs.Failing.{fetch_fails};
+ghost use Rattle.sd_boot_chain.specs.Failing.{fetch_fails, IsFetchFault};
 ghost use Rattle.sd_boot_chain.specs.Durations.{most_fetch_ticks};
-ghost use Rattle.sd_boot_chain.specs.Fetch.{fetch_of, IsFetch, CameOf, GivesFile, IsFetchFault, IsFinished, Finishes, LooksAt};
+ghost use Rattle.sd_boot_chain.specs.Fetch.{fetch_of, IsFetch, CameOf, GivesFile, IsFinished, Finishes, LooksAt};
 ghost use Rattle.sd_claims.specs.AnyLink.{IsMet};
 ghost use Rattle.sd_boot_chain.specs.Needs.{FetchNeeds};
 

@@ -11,9 +11,10 @@ ghost use Rattle.sd_rpc_retry.specs.Calling.{AskFits};
 ghost use Rattle.sd_rpc_retry.specs.Calls.{IsAnswerTo};
 ghost use Rattle.sd_rpc_retry.specs.Lasting.{Lasts, most_asking_ticks, Fails};
 ghost use Rattle.sd_boot_chain.specs.Failing.{call_fails};
-ghost use Rattle.sd_claims.specs.Booting.{CallTold, after_call, portmapper, whoami_call, getfile_call, getport_call};
+ghost use Rattle.sd_rpc_retry.specs.Chain.{CallTold, after_call};
+ghost use Rattle.sd_claims.specs.Booting.{portmapper, whoami_call, getfile_call, getport_call};
 ghost use Rattle.sd_boot_chain.specs.Durations.{most_calls_ticks};
-ghost use Rattle.sd_boot_chain.specs.Root.{CallCame, Names, Places, CallsCame, calls_of, answer_without, answer_to};
+ghost use Rattle.sd_boot_chain.specs.Root.{CallCame, Names, Places, CallsCame, answer_without, answer_to};
 ghost use Rattle.sd_claims.specs.AnyLink.{IsMet};
 ghost use Rattle.sd_boot_chain.specs.Needs.{CallNeeds};
 
@@ -196,8 +197,8 @@ pub(crate) fn find_mount<L: Link>(
     requires wait { caller.old.wait ≤ 1000 }
     requires machine { length caller.old.machine ≤ 255 }
     requires root { root ≡ codes "root" }
-    ensures counted { caller.new.next_xid ≡ caller.old.next_xid + calls_of result }
-    ensures told { Moves (L.told link.old) (L.told link.new) (CallsCame caller.old result) }
+    ensures calls { caller.new.next_xid ≤ caller.old.next_xid + 3 }
+    ensures told { Moves (L.told link.old) (L.told link.new) (CallsCame caller.old result caller.new) }
     ensures lasts { Lasts most_calls_ticks (L.told link.old) (L.told link.new) }
     ensures fault { IfErr result (λ why. why.error ≡ error.LinkFault → Rose (L.faults link.old) (L.faults link.new)) }
     ensures needs { CallNeeds (caller.old.tries * caller.old.wait) (IsMet (L.handed link.old) (L.handed link.new) (L.clock link.old) (L.clock link.new)) result }

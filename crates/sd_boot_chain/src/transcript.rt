@@ -8,8 +8,8 @@ ghost use Rattle.sd_config.specs.Commands.{command_limit};
 ghost use Rattle.sd_config.specs.Commands.{IsCommand};
 ghost use Rattle.sd_claims.specs.Booting.{first_counts};
 ghost use Rattle.sd_claims.specs.Session.{IsSession, IsCutSession};
-ghost use Rattle.sd_claims.specs.Wrote.{Wrote, WroteFront};
-ghost use Rattle.sd_link.specs.Lawful.{IsFrontOf};
+ghost use Rattle.sd_claims.specs.Wrote.{Wrote, WrotePrefix};
+ghost use Rattle.sd_outside.specs.Streams.{IsPrefixOf};
 ghost use Rattle.sd_rpc_retry.specs.Lasting.{Lasts};
 ghost use Rattle.sd_boot_chain.specs.Durations.{most_ticks, most_session_ticks, most_calls, HasCallsLeft};
 ghost use Rattle.sd_boot_chain.specs.Step.{HasCounted, IsStep, IsSaid};
@@ -57,7 +57,7 @@ fn text_of<L: Link>(
     ensures lasts { Lasts most_ticks (L.told link.old) (L.told link.new) }
     ensures drained { OnOk result (IsDrained (L.told link.new) (L.drained link.new)) }
     ensures said { IfOk result (IsSaid (client.old.config.tries * client.old.config.wait) command.now (record { handed = L.handed link.old; clock = L.clock link.old; faults = L.faults link.old }) (record { handed = L.handed link.new; clock = L.clock link.new; faults = L.faults link.new }) (L.drained link.old) (L.drained link.new)) }
-    ensures front { IsFrontOf (L.drained link.old) (L.drained link.new) }
+    ensures prefix { IsPrefixOf (L.drained link.old) (L.drained link.new) }
     ensures counts { L.handed link.old ≤ L.handed link.new }
     ensures later { L.clock link.old ≤ L.clock link.new }
     ensures faults { L.faults link.old ≤ L.faults link.new }
@@ -81,14 +81,12 @@ fn do_all<L: Link, K: Sink>(
     requires commands { All IsCommand commands.now }
     requires few { length commands.now ≤ command_limit }
     requires fresh { HasCounted client.old first_counts }
-    ensures done { IsDrained (L.told link.old) (L.drained link.old) → OnOk result (
-        Moves (L.told link.old) (L.told link.new) (λ old part. IsFor old.config client.old.config →
-        IsSession commands.now (K.written sink.old) (K.written sink.new) old part)) }
-    ensures cut { IsDrained (L.told link.old) (L.drained link.old) → OnErr result (
-        Moves (L.told link.old) (L.told link.new) (λ old part. IsFor old.config client.old.config →
-        IsCutSession commands.now (K.written sink.old) (K.written sink.new) old part)) }
+    ensures done { OnOk result (Moves (L.told link.old) (L.told link.new) (λ old part. IsFor old.config client.old.config →
+        IsSession commands.now (L.drained link.old) (K.written sink.old) (K.written sink.new) old part)) }
+    ensures cut { OnErr result (Moves (L.told link.old) (L.told link.new) (λ old part. IsFor old.config client.old.config →
+        IsCutSession commands.now (L.drained link.old) (K.written sink.old) (K.written sink.new) old part)) }
     ensures wrote { OnOk result (Wrote (client.old.config.tries * client.old.config.wait) commands.now (record { handed = L.handed link.old; clock = L.clock link.old; faults = L.faults link.old }) (record { handed = L.handed link.new; clock = L.clock link.new; faults = L.faults link.new }) (L.drained link.old) (L.drained link.new) (K.written sink.old) (K.written sink.new)) }
-    ensures wrote_prefix { OnErr result (WroteFront (client.old.config.tries * client.old.config.wait) commands.now (record { handed = L.handed link.old; clock = L.clock link.old; faults = L.faults link.old }) (record { handed = L.handed link.new; clock = L.clock link.new; faults = L.faults link.new }) (L.drained link.old) (L.drained link.new) (K.written sink.old) (K.written sink.new)) }
+    ensures wrote_prefix { OnErr result (WrotePrefix (client.old.config.tries * client.old.config.wait) commands.now (record { handed = L.handed link.old; clock = L.clock link.old; faults = L.faults link.old }) (record { handed = L.handed link.new; clock = L.clock link.new; faults = L.faults link.new }) (L.drained link.old) (L.drained link.new) (K.written sink.old) (K.written sink.new)) }
     ensures lasts { Lasts most_session_ticks (L.told link.old) (L.told link.new) }
     ensures fault { IsErrOf result SessionError.SinkFault → Rose (K.faults sink.old) (K.faults sink.new) }
     ensures faults { L.faults link.old ≤ L.faults link.new }
@@ -114,18 +112,16 @@ pub fn session<L: Link, K: Sink>(
 ) -> Result<(), SessionError>
     requires config { IsClientConfig config }
     requires commands { All IsCommand commands.now }
-    // Over a link that tells, of which all was drained before, the output is the transcript of what happened.
-    ensures done { IsDrained (L.told link.old) (L.drained link.old) → OnOk result (
-        Moves (L.told link.old) (L.told link.new) (λ old part. IsFor old.config config →
-        IsSession commands.now (K.written sink.old) (K.written sink.new) old part)) }
+    // Over a link that tells, each command has its cause in what happened, and the output is the transcript of it.
+    ensures done { OnOk result (Moves (L.told link.old) (L.told link.new) (λ old part. IsFor old.config config →
+        IsSession commands.now (L.drained link.old) (K.written sink.old) (K.written sink.new) old part)) }
     // After a refusal the output is a prefix of such a transcript, of the first so many commands.
-    ensures cut { IsDrained (L.told link.old) (L.drained link.old) → OnErr result (
-        Moves (L.told link.old) (L.told link.new) (λ old part. IsFor old.config config →
-        IsCutSession commands.now (K.written sink.old) (K.written sink.new) old part)) }
+    ensures cut { OnErr result (Moves (L.told link.old) (L.told link.new) (λ old part. IsFor old.config config →
+        IsCutSession commands.now (L.drained link.old) (K.written sink.old) (K.written sink.new) old part)) }
     // Over every link: one answer for each command, each with what it needs, and the sink gained what `drain` gave and the answer lines.
     ensures wrote { OnOk result (Wrote (config.tries * config.wait) commands.now (record { handed = L.handed link.old; clock = L.clock link.old; faults = L.faults link.old }) (record { handed = L.handed link.new; clock = L.clock link.new; faults = L.faults link.new }) (L.drained link.old) (L.drained link.new) (K.written sink.old) (K.written sink.new)) }
     // After a refusal it gained a prefix of such a text, of the first so many commands.
-    ensures wrote_prefix { OnErr result (WroteFront (config.tries * config.wait) commands.now (record { handed = L.handed link.old; clock = L.clock link.old; faults = L.faults link.old }) (record { handed = L.handed link.new; clock = L.clock link.new; faults = L.faults link.new }) (L.drained link.old) (L.drained link.new) (K.written sink.old) (K.written sink.new)) }
+    ensures wrote_prefix { OnErr result (WrotePrefix (config.tries * config.wait) commands.now (record { handed = L.handed link.old; clock = L.clock link.old; faults = L.faults link.old }) (record { handed = L.handed link.new; clock = L.clock link.new; faults = L.faults link.new }) (L.drained link.old) (L.drained link.new) (K.written sink.old) (K.written sink.new)) }
     // Whatever comes of it, a link that tells goes on telling.
     ensures lasts { Lasts most_session_ticks (L.told link.old) (L.told link.new) }
     ensures fault { IsErrOf result SessionError.SinkFault → Rose (K.faults sink.old) (K.faults sink.new) }

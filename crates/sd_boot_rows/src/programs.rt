@@ -83,6 +83,27 @@ const ROW_8: Row = Row {
     output: b"refused line 8\n",
 };
 
+// The first receive fails: the next request gets the reply to the first.
+const ROW_9: Row = Row {
+    input: b"life 10\ntries 4\nwait 5\npages 1\nserver 080020000001 192.168.1.1 boss\nclient 080020010203 192.168.1.2 sparky example 192.168.1.1\nfault recv 0\naddr\naddr\n",
+    status: 0,
+    output: b"sent 0 0 frame ff*6.08002001020380350001080006040003080020010203.00*4.080020010203.00*22\nfailed 0\naddr linkfault\nsent 0 1 frame ff*6.08002001020380350001080006040003080020010203.00*4.080020010203.00*22\nserved 1 0\nsent 1 2 frame 08002001020308002000000180350001080006040004080020000001c0a80101080020010203c0a80102.00*18\nserved 1 1\nsent 1 3 frame 08002001020308002000000180350001080006040004080020000001c0a80101080020010203c0a80102.00*18\ngot 2 2\naddr ok 192.168.1.2\n",
+};
+
+// The first send fails, and the packet goes out.
+const ROW_10: Row = Row {
+    input: b"life 10\ntries 4\nwait 5\npages 1\nserver 080020000001 192.168.1.1 boss\nclient 080020010203 192.168.1.2 sparky example 192.168.1.1\nfault send 0\naddr\naddr\n",
+    status: 0,
+    output: b"sent 0 0 frame ff*6.08002001020380350001080006040003080020010203.00*4.080020010203.00*22\nfailed 0\naddr linkfault\nsent 0 1 frame ff*6.08002001020380350001080006040003080020010203.00*4.080020010203.00*22\nserved 1 0\nsent 1 2 frame 08002001020308002000000180350001080006040004080020000001c0a80101080020010203c0a80102.00*18\nserved 1 1\nsent 1 3 frame 08002001020308002000000180350001080006040004080020000001c0a80101080020010203c0a80102.00*18\ngot 2 2\naddr ok 192.168.1.2\n",
+};
+
+// A wait that fails.
+const ROW_11: Row = Row {
+    input: b"life 10\ntries 4\nwait 5\npages 1\nserver 080020000001 192.168.1.1 boss\nclient 080020010203 192.168.1.2 sparky example 192.168.1.1\nfault recv 0\nwait 5\naddr\n",
+    status: 0,
+    output: b"failed 0\nwait 5 linkfault\nsent 0 0 frame ff*6.08002001020380350001080006040003080020010203.00*4.080020010203.00*22\nserved 1 0\nsent 1 1 frame 08002001020308002000000180350001080006040004080020000001c0a80101080020010203c0a80102.00*18\ngot 2 1\naddr ok 192.168.1.2\n",
+};
+
 fn words(alloc: Global, all: &[&str]) -> Result<Vec<Text>, Fail> {
     let mut words = Vec::new(alloc);
     for word in all {
@@ -106,7 +127,7 @@ fn ran(alloc: Global, all: &[&str], input: &[u8]) -> Result<(u8, ByteList), Fail
 #[test]
 fn plays_the_rows(rt: HostRuntime) -> Result<(), Fail> {
     let rows = [
-        ROW_0, ROW_1, ROW_2, ROW_3, ROW_4, ROW_5, ROW_6, ROW_7, ROW_8,
+        ROW_0, ROW_1, ROW_2, ROW_3, ROW_4, ROW_5, ROW_6, ROW_7, ROW_8, ROW_9, ROW_10, ROW_11,
     ];
     for row in &rows {
         let (status, output) = ran(rt.alloc(), &["replay"], row.input)?;

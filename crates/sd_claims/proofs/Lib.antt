@@ -1,6 +1,6 @@
 pub mod Counted
-pub mod Began
 mod LastFault
 mod Came
 mod OneOutcome
+mod OneRow
 mod OneAnswer

@@ -6,7 +6,7 @@ use Rattle.std.proofs.lemmas.List.{append-nil, append_cancel_left}
 use Rattle.sd_outside.specs.declared.packet.Packet.{Packet}
 use Rattle.sd_link.specs.Steps.{Step, Tick, Send, Get}
 use Rattle.sd_link.specs.Parts.{sends_in, got_in}
-use Rattle.sd_link.specs.Tries.{Hearing, AreUnmatched, with_replies, RepliesAtOnce, IsTries, EndsMatched, TimedOut, Flooded, flood_limit}
+use Rattle.sd_link.specs.Tries.{Hearing, AreUnmatched, with_replies, RepliesAtOnce, IsTries, EndsMatched, Answered, TimedOut, Flooded, flood_limit}
 use Rattle.sd_link.proofs.Histories.{got-append}
 use Rattle.sd_config.proofs.Lists.{all_split}
 
@@ -146,9 +146,9 @@ module _ {A : Type 0} (match : Packet → Option A) where
 -- ---- what came of a request
 
 pub data Outcome (A : Type 0) : Type 0 where
-  told : A → Outcome A
-  timed_out : Outcome A
-  flooded : Outcome A
+  gave : A → Outcome A
+  in_vain : Outcome A
+  in_flood : Outcome A
 
 -- all tries were in vain
 pub record IsVain {A : Type 0} (request : Packet) (h : Hearing A) (tries : ℕ) (part : List Step) : Type 0 where
@@ -178,9 +178,9 @@ not_both request h tries part v f =
 
 -- how the request ended in its own part, before what follows
 abbrev pub Ended : {A : Type 0} → Packet → Hearing A → ℕ → Outcome A → List Step → List Step → Type 0
-Ended request h tries (told x) own rest = EndsMatched h.match x own
-Ended request h tries timed_out own rest = IsVain request h tries own × (rest ≡ [])
-Ended request h tries flooded own rest = IsFull request h own × (rest ≡ [])
+Ended request h tries (gave x) own rest = EndsMatched h.match x own
+Ended request h tries in_vain own rest = IsVain request h tries own × (rest ≡ [])
+Ended request h tries in_flood own rest = IsFull request h own × (rest ≡ [])
 
 pub record SameOutcome {A : Type 0} (o p : Outcome A) (rest rest' : List Step) : Type 0 where
   pub outcome : o ≡ p
@@ -192,19 +192,47 @@ whole part own rest cut none = cut ∙ ap (λ (l : List Step). own ++ l) none �
 -- two ends of a request in one part are the same
 pub one_outcome : {A : Type 0} (request : Packet) (h : Hearing A) (tries : ℕ) (o p : Outcome A) (part own rest own' rest' : List Step) → part ≡ own ++ rest → part ≡ own' ++ rest' → Ended request h tries o own rest → Ended request h tries p own' rest'
     → SameOutcome o p rest rest'
-one_outcome request h tries (told x) (told y) part own rest own' rest' cut cut' e f =
+one_outcome request h tries (gave x) (gave y) part own rest own' rest' cut cut' e f =
     let s = matched_same h.match x y own own' rest rest' e f (sym cut ∙ cut') in
-    record { outcome = ap told s.gives; rests = s.rests }
-one_outcome request h tries (told x) timed_out part own rest own' rest' cut cut' e f = absurd (matched_not h.match x own rest own' e (sym (whole part own' rest' cut' f.1) ∙ cut) f.0.unmatched)
-one_outcome request h tries (told x) flooded part own rest own' rest' cut cut' e f = absurd (matched_not h.match x own rest own' e (sym (whole part own' rest' cut' f.1) ∙ cut) f.0.unmatched)
-one_outcome request h tries timed_out (told y) part own rest own' rest' cut cut' e f = absurd (matched_not h.match y own' rest' own f (sym (whole part own rest cut e.1) ∙ cut') e.0.unmatched)
-one_outcome request h tries timed_out timed_out part own rest own' rest' cut cut' e f = record { outcome = refl; rests = e.1 ∙ sym f.1 }
-one_outcome request h tries timed_out flooded part own rest own' rest' cut cut' e f =
+    record { outcome = ap gave s.gives; rests = s.rests }
+one_outcome request h tries (gave x) in_vain part own rest own' rest' cut cut' e f = absurd (matched_not h.match x own rest own' e (sym (whole part own' rest' cut' f.1) ∙ cut) f.0.unmatched)
+one_outcome request h tries (gave x) in_flood part own rest own' rest' cut cut' e f = absurd (matched_not h.match x own rest own' e (sym (whole part own' rest' cut' f.1) ∙ cut) f.0.unmatched)
+one_outcome request h tries in_vain (gave y) part own rest own' rest' cut cut' e f = absurd (matched_not h.match y own' rest' own f (sym (whole part own rest cut e.1) ∙ cut') e.0.unmatched)
+one_outcome request h tries in_vain in_vain part own rest own' rest' cut cut' e f = record { outcome = refl; rests = e.1 ∙ sym f.1 }
+one_outcome request h tries in_vain in_flood part own rest own' rest' cut cut' e f =
     absurd (not_both request h tries own e.0 (subst (λ (l : List Step). IsFull request h l) (sym (whole part own' rest' cut' f.1) ∙ whole part own rest cut e.1) f.0))
-one_outcome request h tries flooded (told y) part own rest own' rest' cut cut' e f = absurd (matched_not h.match y own' rest' own f (sym (whole part own rest cut e.1) ∙ cut') e.0.unmatched)
-one_outcome request h tries flooded timed_out part own rest own' rest' cut cut' e f =
+one_outcome request h tries in_flood (gave y) part own rest own' rest' cut cut' e f = absurd (matched_not h.match y own' rest' own f (sym (whole part own rest cut e.1) ∙ cut') e.0.unmatched)
+one_outcome request h tries in_flood in_vain part own rest own' rest' cut cut' e f =
     absurd (not_both request h tries own' f.0 (subst (λ (l : List Step). IsFull request h l) (sym (whole part own rest cut e.1) ∙ whole part own' rest' cut' f.1) e.0))
-one_outcome request h tries flooded flooded part own rest own' rest' cut cut' e f = record { outcome = refl; rests = e.1 ∙ sym f.1 }
+one_outcome request h tries in_flood in_flood part own rest own' rest' cut cut' e f = record { outcome = refl; rests = e.1 ∙ sym f.1 }
+
+-- ---- what follows a request
+
+-- what comes of it all, by what came of the request
+abbrev pub After : {A R : Type 0} → R → R → (A → List Step → R → Type 0) → Outcome A → List Step → R → Type 0
+After vain full next (gave x) rest r = next x rest r
+After vain full next in_vain rest r = r ≡ vain
+After vain full next in_flood rest r = r ≡ full
+
+-- the request ended so in the first steps of the part, and then this came of it all
+pub record Went {A R : Type 0} (asked : Packet) (h : Hearing A) (tries : ℕ) (vain full : R) (next : A → List Step → R → Type 0) (part : List Step) (r : R) : Type 0 where
+  pub outcome : Outcome A
+  pub own : List Step
+  pub rest : List Step
+  pub cut : part ≡ own ++ rest
+  pub ended : Ended asked h tries outcome own rest
+  pub follows : After vain full next outcome rest r
+
+pub went_one : {A R : Type 0} (asked : Packet) (h : Hearing A) (tries : ℕ) (vain full : R) (next other : A → List Step → R → Type 0) → ((x : A) (rest : List Step) (a b : R) → next x rest a → other x rest b → a ≡ b)
+    → (part : List Step) (a b : R) → Went asked h tries vain full next part a → Went asked h tries vain full other part b → a ≡ b
+went_one {A = A} asked h tries vain full next other one part a b v w =
+    let s = one_outcome asked h tries v.outcome w.outcome part v.own v.rest w.own w.rest v.cut w.cut v.ended w.ended in
+    by v.outcome v.rest v.follows (subst (λ o. After vain full other o v.rest b) (sym s.outcome) (subst (λ (l : List Step). After vain full other w.outcome l b) (sym s.rests) w.follows))
+  where
+    by : (o : Outcome A) (rest : List Step) → After vain full next o rest a → After vain full other o rest b → a ≡ b
+    by (gave x) rest f g = one x rest a b f g
+    by in_vain rest f g = f ∙ sym g
+    by in_flood rest f g = f ∙ sym g
 
 -- ---- in the words of the claims
 
@@ -213,3 +241,15 @@ is_vain settled request h tries wait part t = record { rests = t.rests; is = t.i
 
 pub is_full : {A : Type 0} (settled : List Step → Type 0) (request : Packet) (h : Hearing A) (tries wait : ℕ) (part : List Step) → Flooded settled request h tries wait part → IsFull request h part
 is_full settled request h tries wait part f = record { before = f.asks.before; last = f.asks.last; is = f.asks.is; many = f.many; unmatched = f.unmatched }
+
+-- ---- a request with which it all ends
+
+module _ {A R : Type 0} (settled : List Step → Type 0) (request : Packet) (h : Hearing A) (tries wait : ℕ) (vain full : R) (next : A → List Step → R → Type 0) (part : List Step) where
+  pub went_in_vain : TimedOut settled request h tries wait part → Went request h tries vain full next part vain
+  went_in_vain t = record { outcome = in_vain; own = part; rest = []; cut = sym (append-nil part); ended = (is_vain settled request h tries wait part t, refl); follows = refl }
+
+  pub went_in_flood : Flooded settled request h tries wait part → Went request h tries vain full next part full
+  went_in_flood f = record { outcome = in_flood; own = part; rest = []; cut = sym (append-nil part); ended = (is_full settled request h tries wait part f, refl); follows = refl }
+
+  pub went_so : (x : A) (r : R) → Answered settled request h tries wait x part → next x [] r → Went request h tries vain full next part r
+  went_so x r a follows = record { outcome = gave x; own = part; rest = []; cut = sym (append-nil part); ended = a.ends; follows = follows }

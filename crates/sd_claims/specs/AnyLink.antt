@@ -8,6 +8,7 @@ use Rattle.sd_config.specs.declared.stage.Stage.TheVariants.{Rarp}
 use Rattle.sd_outside.specs.Causes.{Rose}
 use Rattle.sd_link.specs.Tries.{flood_limit}
 use Rattle.sd_rpc_retry.specs.Sending.{RoseBy}
+use Rattle.sd_claims.specs.Causes.{faults_told}
 
 -- how many packets the link hands out, and how many ticks pass, at least
 pub record Need : Type 0 where
@@ -67,13 +68,6 @@ Needs long met (Wait ticks) answer = WaitNeeds ticks met answer
 
 -- ---- faults
 
--- the answer of a command that a failure of the network ended
-abbrev pub IsFault : Told → Type 0
-IsFault AddrLinkFault = Unit {0}
-IsFault BootLinkFault = Unit {0}
-IsFault (WaitLinkFault ticks) = Unit {0}
-IsFault answer = ⊥
-
--- such an answer comes only where the link's count of faults rose from the first to the second
+-- the answer of a command that a failure of the network ended comes only where the link's count of faults rose from the first to the second
 abbrev pub FaultIsCounted : ℕ → ℕ → Told → Type 0
-FaultIsCounted before now answer = IsFault answer → Rose before now
+FaultIsCounted before now answer = faults_told answer ≡ 1 → Rose before now

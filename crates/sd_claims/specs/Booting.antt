@@ -1,20 +1,23 @@
 -- The steps of a boot, in order: RARP, TFTP from the responder, WHOAMI, GETFILE of the root, and GETPORT of MOUNT.
-use Rattle.std.specs.Prelude.{◌≡◌, ℕ, ◌+◌, ◌-◌, ◌^◌, ◌%◌, List, [], ◌∷◌, ◌++◌, codes, Ok}
+use Rattle.std.specs.Prelude.{◌≡◌, ℕ, ◌+◌, ◌-◌, ◌^◌, ◌%◌, ◌==◌, if◌then◌else◌, List, [], ◌∷◌, ◌++◌, codes}
 use Rattle.sd_outside.specs.declared.packet.Addr.{Addr}
 use Rattle.sd_outside.specs.declared.packet.Packet.TheVariants.{Udp}
 use Rattle.sd_config.specs.declared.config.Config.{Config}
 use Rattle.sd_config.specs.Config.{IsConfig}
 use Rattle.sd_config.specs.declared.stage.Stage.{Stage}
-use Rattle.sd_config.specs.declared.stage.Stage.TheVariants.{Whoami, Getfile, Getport}
+use Rattle.sd_config.specs.declared.stage.Stage.TheVariants as stage
+use Rattle.sd_config.specs.declared.told.Told.{Told}
+use Rattle.sd_config.specs.declared.told.Told.TheVariants.{BootUnbuilt, BootTimeout, BootFlood, BootDenied, BootNoPort, BootLinkFault}
 use Rattle.sd_config.specs.Program.{program_name}
 use Rattle.sd_link.specs.Steps.{Step, Get}
-use Rattle.sd_link.specs.Tries.{beyond, Answered, Flooded, TimedOut, Failed}
-use Rattle.sd_rpc_retry.specs.declared.calling.Ask.{Ask}
+use Rattle.sd_link.specs.Tries.{beyond, Answered}
 use Rattle.sd_rpc_retry.specs.declared.calling.Ask.TheVariants as asks
+use Rattle.sd_rpc_retry.specs.declared.calling.Answer.{Answer}
 use Rattle.sd_rpc_retry.specs.declared.calling.Answer.TheVariants as answers
 use Rattle.sd_rpc_retry.specs.declared.calling.Caller.{Caller}
 use Rattle.sd_portmap.specs.Layout.{pmap_port}
-use Rattle.sd_rpc_retry.specs.Calling.{Verdict, request, hearing_of}
+use Rattle.sd_rpc_retry.specs.Calling.{Verdict}
+use Rattle.sd_rpc_retry.specs.Chain.{Call, CallTold, Lead, on, out, nowhere, Way, RowEnd, came, timed_out, flooded, denied, failed, Row}
 use Rattle.sd_claims.specs.Rarp.{Learned, rarp_request, rarp_hearing}
 use Rattle.sd_claims.specs.Fetching.{Fetch, Fetched}
 
@@ -73,42 +76,16 @@ pub record OfFetch (settled : List Step → Type 0) (c : Config) (n : Counts) (c
   pub came_of : came (beyond settled address) (boot_fetch c n.boots learned) last
   pub cut : part ≡ address ++ last
 
--- ---- a call
-
--- what is asked, and of whom
-pub record Call : Type 0 where
-  pub dst : Addr
-  pub ask : Ask
+-- ---- who calls
 
 -- The client calls from the address by which it fetched, and from port 1021.
 abbrev pub caller_after : Fetch → ℕ → Caller
 caller_after f xid = record { ip = f.me.ip; port = 1021; machine = []; next_xid = xid; tries = f.tries; wait = f.wait }
 
--- each call takes one number
-abbrev pub after_call : Caller → Caller
-after_call caller = record caller { next_xid = caller.next_xid + 1 }
-
--- The first reply to the call that this caller makes next told this. It has the number of the call, goes to the caller, and
--- comes from the address and port that were called, or after a broadcast from the portmapper of the address that it names.
-abbrev pub CallTold : Verdict → (List Step → Type 0) → Caller → Call → List Step → Type 0
-CallTold verdict settled caller call = Answered settled (request caller call.dst call.ask) (hearing_of caller call.dst call.ask) caller.tries caller.wait verdict
-
--- and the reply came from the server
+-- The call was told this, by a reply that came from the server.
 pub record ServerTold (c : Config) (verdict : Verdict) (settled : List Step → Type 0) (caller : Caller) (call : Call) (part : List Step) : Type 0 where
   pub told : CallTold verdict settled caller call part
   pub from_server : EndsFromServer c part
-
--- all tries waited in vain
-abbrev pub CallTimedOut : (List Step → Type 0) → Caller → Call → List Step → Type 0
-CallTimedOut settled caller call = TimedOut settled (request caller call.dst call.ask) (hearing_of caller call.dst call.ask) caller.tries caller.wait
-
--- the last try got a flood
-abbrev pub CallFlooded : (List Step → Type 0) → Caller → Call → List Step → Type 0
-CallFlooded settled caller call = Flooded settled (request caller call.dst call.ask) (hearing_of caller call.dst call.ask) caller.tries caller.wait
-
--- the network failed in one of the tries
-abbrev pub CallFailed : (List Step → Type 0) → Caller → Call → List Step → Type 0
-CallFailed settled caller call = Failed settled (request caller call.dst call.ask) (hearing_of caller call.dst call.ask) caller.tries caller.wait
 
 -- ---- the calls of a boot
 
@@ -128,25 +105,60 @@ getfile_call from client key = record { dst = portmapper from; ask = asks.Getfil
 abbrev pub getport_call : ℕ → Call
 getport_call server = record { dst = portmapper server; ask = asks.Getport 100005 1 }
 
--- The boot came to the call of a step by this part: its program was fetched from the server, and the calls before were answered by
--- the server. Each answer says whom the next call asks, and what.
-pub data ComesTo (settled : List Step → Type 0) (c : Config) (n : Counts) (program : List ℕ) : Stage → Caller → Call → List Step → Type 0 where
-  to_whoami : (learned : Learned) (address fetch : List Step) → LearnsAddress settled c learned address → IsServerIp c learned.responder
-      → Fetched (beyond settled address) (boot_fetch c n.boots learned) program fetch
-      → ComesTo settled c n program Whoami (caller_after (boot_fetch c n.boots learned) n.next_xid) (whoami_call learned.address) (address ++ fetch)
-  to_getfile : (caller : Caller) (call : Call) (before last : List Step) (from : ℕ) (client domain : List ℕ) (router : ℕ) → ComesTo settled c n program Whoami caller call before
-      → ServerTold c (Ok (answers.Whoami from client domain router)) (beyond settled before) caller call last
-      → ComesTo settled c n program Getfile (after_call caller) (getfile_call from client (codes "root")) (before ++ last)
-  to_getport : (caller : Caller) (call : Call) (before last : List Step) (from : ℕ) (server : List ℕ) (ip : ℕ) (path : List ℕ) → ComesTo settled c n program Getfile caller call before
-      → ServerTold c (Ok (answers.Getfile from server ip path)) (beyond settled before) caller call last
-      → ComesTo settled c n program Getport (after_call caller) (getport_call ip) (before ++ last)
+-- ---- the table
 
--- the boot came to the call of a step, and then this came of the call
-pub record OfCall (settled : List Step → Type 0) (c : Config) (n : Counts) (program : List ℕ) (step : Stage) (came : (List Step → Type 0) → Caller → Call → List Step → Type 0) (part : List Step) : Type 0 where
-  pub caller : Caller
-  pub call : Call
-  pub before : List Step
-  pub last : List Step
-  pub to : ComesTo settled c n program step caller call before
-  pub came_of : came (beyond settled before) caller call last
-  pub cut : part ≡ before ++ last
+-- The places of a boot after its program was fetched, each with what is known there: the client's address; who told its name, and
+-- the name; the address of the root's server.
+pub data Place : Type 0 where
+  asks_name : ℕ → Place
+  asks_root : ℕ → List ℕ → Place
+  asks_mount : ℕ → Place
+
+-- how its calls end: the root's server has no MOUNT, or the port of MOUNT is known
+pub data End : Type 0 where
+  no_mount : End
+  found_mount : End
+
+abbrev pub step_at : Place → Stage
+step_at (asks_name address) = stage.Whoami
+step_at (asks_root from client) = stage.Getfile
+step_at (asks_mount server) = stage.Getport
+
+abbrev pub call_at : Place → Call
+call_at (asks_name address) = whoami_call address
+call_at (asks_root from client) = getfile_call from client (codes "root")
+call_at (asks_mount server) = getport_call server
+
+-- where an answer leads
+abbrev pub leads_at : Place → Answer → Lead Place End
+leads_at (asks_name address) (answers.Whoami from client domain router) = on (asks_root from client)
+leads_at (asks_root from client) (answers.Getfile told_by server ip path) = on (asks_mount ip)
+leads_at (asks_mount server) (answers.Port port) = out (if port == 0 then no_mount else found_mount)
+leads_at at answer = nowhere
+
+abbrev pub boot_way : Way Place End
+boot_way = record { step = step_at; call = call_at; leads = leads_at }
+
+-- What a boot is answered whose calls ended so. What follows GETPORT isn't built.
+abbrev pub answer_of : List ℕ → RowEnd End → Told
+answer_of program (came no_mount) = BootNoPort
+answer_of program (came found_mount) = BootUnbuilt stage.Mnt program
+answer_of program (timed_out step) = BootTimeout step
+answer_of program (flooded step) = BootFlood step
+answer_of program (denied step code) = BootDenied step code
+answer_of program (failed step) = BootLinkFault
+
+-- The program was fetched from the server, and then the calls ended so. Each reply came from the server. The client counted so much
+-- before, and counts so much after.
+pub record OfCalls (settled : List Step → Type 0) (c : Config) (n : Counts) (program : List ℕ) (end : RowEnd End) (next : Counts) (part : List Step) : Type 0 where
+  pub learned : Learned
+  pub address : List Step
+  pub fetch : List Step
+  pub calls : List Step
+  pub last : Caller
+  pub told : LearnsAddress settled c learned address
+  pub named : IsServerIp c learned.responder
+  pub fetched : Fetched (beyond settled address) (boot_fetch c n.boots learned) program fetch
+  pub row : Row boot_way (ServerTold c) (beyond settled (address ++ fetch)) (asks_name learned.address) (caller_after (boot_fetch c n.boots learned) n.next_xid) end last calls
+  pub next_is : next ≡ record { boots = n.boots + 1; next_xid = last.next_xid }
+  pub cut : part ≡ address ++ (fetch ++ calls)

@@ -7,7 +7,8 @@ use Rattle.sd_link.specs.Steps.{Step}
 use Rattle.sd_config.specs.declared.events.Events.{Events}
 use Rattle.sd_config.specs.Events.{fates_of}
 use Rattle.sd_config.specs.Plan.{plan_of}
-use Rattle.sd_link.specs.Lawful.{IsLawful, EndsAtRest, IsFrontOf, Settles}
+use Rattle.sd_outside.specs.Streams.{IsPrefixOf}
+use Rattle.sd_link.specs.Lawful.{IsLawful, EndsAtRest, Settles}
 use Rattle.sd_config.specs.declared.command.Command.{Command}
 use Rattle.sd_config.specs.declared.command.Command.TheVariants.{Boot}
 use Rattle.sd_script.specs.declared.script.Script.{Script}
@@ -23,6 +24,7 @@ use Rattle.sd_claims.specs.Session.{parts_of}
 pub record HasNoEvents (events : Events) : Type 0 where
   pub fates : events.fates ≡ []
   pub strangers : events.strangers ≡ []
+  pub faults : events.faults ≡ []
 
 -- there is no event line, the client waits at least two ticks for its address, and it doesn't boot
 pub record IsCalm (s : Script) : Type 0 where
@@ -56,12 +58,12 @@ pub record Plays (s : Script) (out : List ℕ) : Type 0 where
   pub whole : out ≡ written s done
 
 -- a prefix of a transcript of its first so many commands
-pub record PlaysFront (s : Script) (out : List ℕ) : Type 0 where
+pub record PlaysPrefix (s : Script) (out : List ℕ) : Type 0 where
   pub count : ℕ
   pub done : List Done
   pub more : List Step
   pub some : AreDone s (take count s.commands) done more
-  pub front : IsFrontOf out (written s done)
+  pub prefix : IsPrefixOf out (written s done)
 
 -- the whole transcript of the script that the text spells
 pub record IsTranscript (text out : List ℕ) : Type 0 where
@@ -82,14 +84,14 @@ pub record IsRefusal (text out : List ℕ) : Type 0 where
 pub record IsCutShort (text out : List ℕ) : Type 0 where
   pub script : Script
   pub spelled : IsScript text script
-  pub plays : PlaysFront script out
+  pub plays : PlaysPrefix script out
 
 -- a prefix of a refusal
 pub record IsCutRefusal (text out : List ℕ) : Type 0 where
   pub full : List ℕ
   pub refusal : IsRefusal text full
-  pub front : IsFrontOf out full
+  pub prefix : IsPrefixOf out full
 
--- a prefix of what would have been written; no bytes are a prefix of both
-abbrev pub IsFront : List ℕ → List ℕ → Type 0
-IsFront text out = (out ≡ []) ⊎ IsCutShort text out ⊎ IsCutRefusal text out
+-- a prefix of what would have been written: nothing yet, of the transcript, or of the refusal
+abbrev pub IsOutputPrefix : List ℕ → List ℕ → Type 0
+IsOutputPrefix text out = (out ≡ []) ⊎ IsCutShort text out ⊎ IsCutRefusal text out

@@ -17,7 +17,7 @@ use Rattle.sd_claims.specs.Machine.{State, Answers}
 use Rattle.sd_claims.specs.Rarp.{learned_from, Learned}
 use Rattle.sd_claims.specs.Fetching.{Fetch, Fetched, FetchTimedOut, FetchFlooded, FetchRefused, FetchTooLarge}
 use Rattle.sd_claims.specs.Booting.{Counts, IsServerIp, fetch_port, OfFetch}
-use Rattle.sd_claims.specs.Causes.{IsCaused, AddressTimedOut, AddressFlooded, counts_after, faults_told}
+use Rattle.sd_claims.specs.Causes.{IsCaused, AddressTimedOut, AddressFlooded, faults_told}
 
 -- ---- what is shown is what was configured
 
@@ -40,7 +40,7 @@ pub record WasTold (mac : Mac) (ip : ℕ) (part : List Step) : Type 0 where
   pub address : learned.address ≡ ip
 
 abbrev pub AddressWasTold : Type 0
-AddressWasTold = (h : History) (n : Counts) (ip : ℕ) (part : List Step) → IsCaused (IsSettledBy h) h.config n Addr (AddrOk ip) part → WasTold h.config.client.mac ip part
+AddressWasTold = (h : History) (n next : Counts) (ip : ℕ) (part : List Step) → IsCaused (IsSettledBy h) h.config n Addr (AddrOk ip) next part → WasTold h.config.client.mac ip part
 
 -- a fetch of the client's boot program from the server, in the part, gave these bytes
 pub record WasFetched (h : History) (n : Counts) (program : List ℕ) (part : List Step) : Type 0 where
@@ -55,24 +55,29 @@ pub record WasFetched (h : History) (n : Counts) (program : List ℕ) (part : Li
   pub server : IsServerIp h.config fetch.server
 
 abbrev pub ProgramWasFetched : Type 0
-ProgramWasFetched = (h : History) (n : Counts) (step : Stage) (program : List ℕ) (part : List Step) → IsCaused (IsSettledBy h) h.config n Boot (BootUnbuilt step program) part → WasFetched h n program part
+ProgramWasFetched = (h : History) (n next : Counts) (step : Stage) (program : List ℕ) (part : List Step) → IsCaused (IsSettledBy h) h.config n Boot (BootUnbuilt step program) next part → WasFetched h n program part
 
 -- the client was silent, and just so many ticks passed
 abbrev pub WaitPassed : Type 0
-WaitPassed = (h : History) (n : Counts) (ticks shown : ℕ) (part : List Step) → IsCaused (IsSettledBy h) h.config n (Wait ticks) (WaitOk shown) part → (sends_in part ≡ []) × (ticks_in part ≡ shown)
+WaitPassed = (h : History) (n next : Counts) (ticks shown : ℕ) (part : List Step) → IsCaused (IsSettledBy h) h.config n (Wait ticks) (WaitOk shown) next part → (sends_in part ≡ []) × (ticks_in part ≡ shown)
 
 -- ---- one answer
 
 -- What happened leaves no choice: two answers to one command that have their causes in one part are equal.
 abbrev pub HasOneAnswer : Type 0
-HasOneAnswer = (h : History) (n : Counts) (command : Command) (first second : Told) (part : List Step)
-    → IsCaused (IsSettledBy h) h.config n command first part → IsCaused (IsSettledBy h) h.config n command second part → first ≡ second
+HasOneAnswer = (h : History) (n : Counts) (command : Command) (first second : Told) (next other : Counts) (part : List Step)
+    → IsCaused (IsSettledBy h) h.config n command first next part → IsCaused (IsSettledBy h) h.config n command second other part → first ≡ second
+
+-- And where the network doesn't fail, so are what the client counts after them.
+abbrev pub HasOneCount : Type 0
+HasOneCount = (h : History) (n : Counts) (command : Command) (first second : Told) (next other : Counts) (part : List Step) → fails_in part ≡ 0
+    → IsCaused (IsSettledBy h) h.config n command first next part → IsCaused (IsSettledBy h) h.config n command second other part → next ≡ other
 
 -- ---- faults
 
 -- Where the network fails, a fault is answered.
 abbrev pub FaultIsTold : Type 0
-FaultIsTold = (h : History) (n : Counts) (command : Command) (answer : Told) (part : List Step) → fails_in part ≢ 0 → IsCaused (IsSettledBy h) h.config n command answer part → faults_told answer ≡ 1
+FaultIsTold = (h : History) (n next : Counts) (command : Command) (answer : Told) (part : List Step) → fails_in part ≢ 0 → IsCaused (IsSettledBy h) h.config n command answer next part → faults_told answer ≡ 1
 
 -- a failure of the network ends the part, which has no other
 pub record EndsWithFail (part : List Step) : Type 0 where
@@ -82,14 +87,14 @@ pub record EndsWithFail (part : List Step) : Type 0 where
 
 -- And the failure ends the command.
 abbrev pub FaultIsLast : Type 0
-FaultIsLast = (h : History) (n : Counts) (command : Command) (answer : Told) (part : List Step) → fails_in part ≢ 0 → IsCaused (IsSettledBy h) h.config n command answer part → EndsWithFail part
+FaultIsLast = (h : History) (n next : Counts) (command : Command) (answer : Told) (part : List Step) → fails_in part ≢ 0 → IsCaused (IsSettledBy h) h.config n command answer next part → EndsWithFail part
 
 -- No fault of the network has a cause where the network doesn't fail.
 abbrev pub NoFaultIsCaused : Type 0
-NoFaultIsCaused = (h : History) (n : Counts) (command : Command) (ticks : ℕ) (part : List Step) → fails_in part ≡ 0
-    → (IsCaused (IsSettledBy h) h.config n command AddrLinkFault part → ⊥)
-    × (IsCaused (IsSettledBy h) h.config n command BootLinkFault part → ⊥)
-    × (IsCaused (IsSettledBy h) h.config n command (WaitLinkFault ticks) part → ⊥)
+NoFaultIsCaused = (h : History) (n next : Counts) (command : Command) (ticks : ℕ) (part : List Step) → fails_in part ≡ 0
+    → (IsCaused (IsSettledBy h) h.config n command AddrLinkFault next part → ⊥)
+    × (IsCaused (IsSettledBy h) h.config n command BootLinkFault next part → ⊥)
+    × (IsCaused (IsSettledBy h) h.config n command (WaitLinkFault ticks) next part → ⊥)
 
 -- ---- what the client counts
 
@@ -99,7 +104,7 @@ NoAddress settled c part = AddressTimedOut settled c part ⊎ AddressFlooded set
 
 -- Where it doesn't fail, a boot that isn't counted came no further than RARP.
 abbrev pub UncountedBoot : Type 0
-UncountedBoot = (h : History) (n : Counts) (answer : Told) (part : List Step) → fails_in part ≡ 0 → IsCaused (IsSettledBy h) h.config n Boot answer part → (counts_after n answer).boots ≡ n.boots → NoAddress (IsSettledBy h) h.config part
+UncountedBoot = (h : History) (n next : Counts) (answer : Told) (part : List Step) → fails_in part ≡ 0 → IsCaused (IsSettledBy h) h.config n Boot answer next part → next.boots ≡ n.boots → NoAddress (IsSettledBy h) h.config part
 
 -- no program came
 abbrev pub NoProgram : (List Step → Type 0) → Fetch → List Step → Type 0
@@ -107,7 +112,7 @@ NoProgram settled f part = FetchTimedOut settled f part ⊎ FetchFlooded settled
 
 -- And one after which the next call has the same number came no further than TFTP.
 abbrev pub UncountedCalls : Type 0
-UncountedCalls = (h : History) (n : Counts) (answer : Told) (part : List Step) → fails_in part ≡ 0 → IsCaused (IsSettledBy h) h.config n Boot answer part → (counts_after n answer).next_xid ≡ n.next_xid
+UncountedCalls = (h : History) (n next : Counts) (answer : Told) (part : List Step) → fails_in part ≡ 0 → IsCaused (IsSettledBy h) h.config n Boot answer next part → next.next_xid ≡ n.next_xid
     → NoAddress (IsSettledBy h) h.config part ⊎ OfFetch (IsSettledBy h) h.config n NoProgram part
 
 -- Of 32,768 boots in a row each fetches from a port of its own.

@@ -2,8 +2,8 @@
 -- answer line.
 use Rattle.std.specs.Prelude.{◌≡◌, ℕ, ◌≤◌, List, [], ◌∷◌, ◌++◌, take, Option}
 use Rattle.std.specs.List.{flat_map}
-use Rattle.sd_outside.specs.Streams.{Gains}
-use Rattle.sd_link.specs.Lawful.{IsFrontOf}
+use Rattle.sd_outside.specs.Streams.{Gains, IsPrefixOf}
+use Rattle.sd_streams.specs.Writing.{GainsPrefix}
 use Rattle.sd_config.specs.declared.command.Command.{Command}
 use Rattle.sd_config.specs.declared.told.Told.{Told}
 use Rattle.sd_script.specs.Answers.{answer_line}
@@ -50,14 +50,12 @@ pub record Wrote (long : ℕ) (commands : List Command) (before now : Counted) (
   pub text : Gains sink_before sink_now (text_of said)
 
 -- The first so many commands were answered, and the sink gained a prefix of that.
-pub record WroteFront (long : ℕ) (commands : List Command) (before now : Counted) (drained_before drained_now : List ℕ) (sink_before sink_now : Option (List ℕ)) : Type 0 where
+pub record WrotePrefix (long : ℕ) (commands : List Command) (before now : Counted) (drained_before drained_now : List ℕ) (sink_before sink_now : Option (List ℕ)) : Type 0 where
   pub count : ℕ
   pub said : List Said
   pub needed : AllNeeded long before (take count commands) said
   pub handed : (counted_after before said).handed ≤ now.handed
   pub clock : (counted_after before said).clock ≤ now.clock
   pub faults : (counted_after before said).faults ≤ now.faults
-  pub drained : IsFrontOf (drained_before ++ lines_of said) drained_now
-  pub front : List ℕ
-  pub short : IsFrontOf front (text_of said)
-  pub text : Gains sink_before sink_now front
+  pub drained : IsPrefixOf (drained_before ++ lines_of said) drained_now
+  pub text : GainsPrefix sink_before sink_now (text_of said)

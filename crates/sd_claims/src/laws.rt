@@ -1,6 +1,6 @@
 //! What holds of the claims, each on a function that does nothing: the contract is the law.
 
-ghost use Rattle.sd_claims.specs.Laws.{AddressIsConfigured, ProgramIsConfigured, AddressWasTold, ProgramWasFetched, WaitPassed, HasOneAnswer, FaultIsTold, FaultIsLast, NoFaultIsCaused, UncountedBoot, UncountedCalls, PortsDiffer};
+ghost use Rattle.sd_claims.specs.Laws.{AddressIsConfigured, ProgramIsConfigured, AddressWasTold, ProgramWasFetched, WaitPassed, HasOneAnswer, HasOneCount, FaultIsTold, FaultIsLast, NoFaultIsCaused, UncountedBoot, UncountedCalls, PortsDiffer};
 
 /// What the boot machine shows is what was configured.
 pub fn shows_what_is_configured()
@@ -15,9 +15,10 @@ pub fn shows_what_came()
     ensures wait { WaitPassed }
 {}
 
-/// One part, state and command have one answer.
+/// One part, state and command have one answer, and what the client counts after it is one.
 pub fn has_one_answer()
-    ensures { HasOneAnswer }
+    ensures answer { HasOneAnswer }
+    ensures count { HasOneCount }
 {}
 
 /// A fault of the network is answered exactly where the network failed, and the failure is the last that happened in the command.

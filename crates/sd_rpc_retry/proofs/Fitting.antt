@@ -1,5 +1,5 @@
 -- What a reply tells is of the kind that was asked for, and its texts are within their limits.
-use Rattle.std.proofs.Common.{◌≡◌, ℕ, ◌≤◌, Bool, true, false, ◌&&◌, nat_lt, cond, List, length, take, drop, Option, Some, None, Ok, Err, refl, ap, subst, ◌∙◌, arith}
+use Rattle.std.proofs.Common.{◌≡◌, ℕ, ◌≤◌, Bool, true, false, ◌&&◌, nat_lt, eqb, cond, List, length, take, drop, Option, Some, None, Ok, Err, refl, ap, subst, ◌∙◌, arith}
 use Rattle.sd_outside.specs.declared.packet.Addr.{Addr}
 use Rattle.sd_outside.specs.declared.packet.Packet.{Packet}
 use Rattle.sd_outside.specs.declared.packet.Packet.TheVariants.{Frame, Udp}
@@ -10,6 +10,13 @@ use Rattle.sd_xdr.specs.Reading.{Read, Cursor, unless, start, reading, opaque_re
 use Rattle.sd_portmap.specs.Layout as portmap
 use Rattle.sd_bootparams.specs.Layout.{name_limit, path_limit, name, ip, whoami_res, getfile_res, result_kind}
 use Rattle.sd_rpc_msg.specs.Layout.{message}
+use Rattle.sd_mount.specs.Layout as mount
+use Rattle.sd_nfs_msg.specs.Layout as nfs
+use Rattle.sd_nfs_msg.specs.declared.message.NfsArgs.{NfsArgs}
+use Rattle.sd_nfs_msg.specs.declared.message.NfsArgs.TheVariants as asks
+use Rattle.sd_nfs_msg.specs.declared.message.NfsResult.{NfsResult}
+use Rattle.sd_nfs_msg.specs.declared.message.NfsResult.TheVariants as results
+use Rattle.sd_rpc_retry.specs.NfsResults.{done_in, status_in, nfs_result_in}
 use Rattle.sd_rpc_retry.specs.declared.calling.Ask.{Ask}
 use Rattle.sd_rpc_retry.specs.declared.calling.Ask.TheVariants as ask
 use Rattle.sd_rpc_retry.specs.declared.calling.Answer.{Answer}
@@ -19,7 +26,7 @@ use Rattle.std.specs.Prelude.{IfOk, Result}
 use Rattle.sd_rpc_retry.specs.declared.calling.CallError.{CallError}
 use Rattle.sd_rpc_retry.specs.declared.calling.CallError.TheVariants as error
 use Rattle.sd_services.specs.RpcCalls.{value_read, spelled}
-use Rattle.sd_rpc_retry.specs.Calling.{Said, Verdict, home, is_at, comes_from, is_relayed, and_then, message_says, whoami_in, getfile_in, bootparams_results, bootparams_says, answer_in, verdict_of, verdict_in}
+use Rattle.sd_rpc_retry.specs.Calling.{Said, Verdict, home, is_at, comes_from, is_relayed, and_then, message_says, whoami_in, getfile_in, given_in, nfs_answer, nfs_answer_in, bootparams_results, bootparams_says, answer_in, verdict_of, verdict_in}
 use Rattle.sd_rpc_retry.specs.Calls.{asked_as, IsTold, IsAnswerTo}
 use Rattle.sd_rpc_retry.proofs.MatchLaw.{only_if, some_is, follows, mapped}
 use Rattle.sd_xdr.proofs.Sound.{bind_ok, ok_is}
@@ -107,6 +114,38 @@ getfile_fits bs v h =
 told_is : (a b : Answer) → ◌≡◌ {A = Verdict} (Ok a) (Ok b) → a ≡ b
 told_is a b e = cc
 
+-- ---- statuses
+
+differs : (n : ℕ) → eqb n 0 ≡ false → n ≡ 0 → ⊥
+differs n e is = grind arith
+
+given_fits : (path : List ℕ) (status : ℕ) (handle : List ℕ) (b : Bool) → eqb status 0 ≡ b → IsAnswerTo (ask.Mnt path) (cond b (answer.Given (record { 0 = handle })) (answer.Refused status))
+given_fits path status handle true e = tt
+given_fits path status handle false e = differs status e
+
+status_fits : (args : NfsArgs) (status : ℕ) (done : NfsResult) → IsAnswerTo (ask.Nfs args) (nfs_answer done) → (b : Bool) → eqb status 0 ≡ b
+    → IsAnswerTo (ask.Nfs args) (nfs_answer (cond b done (results.Refused status)))
+status_fits args status done fits true e = fits
+status_fits args status done fits false e = differs status e
+
+result_fits : (args : NfsArgs) (v : Value) → IsAnswerTo (ask.Nfs args) (nfs_answer (nfs_result_in (nfs.proc_of args) v))
+result_fits asks.Null v = refl
+result_fits (asks.Getattr file) v = status_fits (asks.Getattr file) _ (done_in 1 (second (second v))) refl _ refl
+result_fits (asks.Setattr file set) v = status_fits (asks.Setattr file set) _ (done_in 2 (second (second v))) refl _ refl
+result_fits (asks.Lookup dir text) v = status_fits (asks.Lookup dir text) _ (done_in 4 (second (second v))) refl _ refl
+result_fits (asks.Readlink file) v = status_fits (asks.Readlink file) _ (done_in 5 (second (second v))) refl _ refl
+result_fits (asks.Read file offset count total) v = status_fits (asks.Read file offset count total) _ (done_in 6 (second (second v))) refl _ refl
+result_fits (asks.Write file begin offset total body) v = status_fits (asks.Write file begin offset total body) _ (done_in 8 (second (second v))) refl _ refl
+result_fits (asks.Create dir text set) v = status_fits (asks.Create dir text set) _ (done_in 9 (second (second v))) refl _ refl
+result_fits (asks.Remove dir text) v = status_fits (asks.Remove dir text) _ (done_in 10 (second (second v))) refl _ refl
+result_fits (asks.Rename dir text to_dir to_text) v = status_fits (asks.Rename dir text to_dir to_text) _ (done_in 11 (second (second v))) refl _ refl
+result_fits (asks.Link from to_dir to_text) v = status_fits (asks.Link from to_dir to_text) _ (done_in 12 (second (second v))) refl _ refl
+result_fits (asks.Symlink dir text target set) v = status_fits (asks.Symlink dir text target set) _ (done_in 13 (second (second v))) refl _ refl
+result_fits (asks.Mkdir dir text set) v = status_fits (asks.Mkdir dir text set) _ (done_in 14 (second (second v))) refl _ refl
+result_fits (asks.Rmdir dir text) v = status_fits (asks.Rmdir dir text) _ (done_in 15 (second (second v))) refl _ refl
+result_fits (asks.Readdir dir mark count) v = status_fits (asks.Readdir dir mark count) _ (done_in 16 (second (second v))) refl _ refl
+result_fits (asks.Statfs file) v = status_fits (asks.Statfs file) _ (done_in 17 (second (second v))) refl _ refl
+
 answer_fits : (asked : Ask) (dst : Addr) (from : ℕ) (results : List ℕ) (a : Answer) → answer_in asked dst from results ≡ Some a → IsAnswerTo asked a
 answer_fits (ask.Getport prog vers) dst from results a h =
     let m = mapped (spelled (portmap.result_kind 3) results) (λ v. answer.Port (number_of (second v))) a h in
@@ -119,6 +158,13 @@ answer_fits (ask.Getfile client key) dst from results a h =
     let m = mapped (bootparams_says 2 (is_relayed dst) results) (getfile_in from) a h in
     let inner = inner_of (is_relayed dst) 2 results m.0 m.1 in
     subst (λ (x : Answer). IsAnswerTo (ask.Getfile client key) x) m.2 (getfile_fits inner.0 m.0 inner.1)
+answer_fits (ask.Mnt path) dst from results a h =
+    let m = mapped (spelled (mount.result_kind 1) results) given_in a h in
+    subst (λ (x : Answer). IsAnswerTo (ask.Mnt path) x) m.2 (given_fits path (number_of (first (second m.0))) (bytes_of (second (second m.0))) _ refl)
+answer_fits (ask.Nfs args) dst from results a h =
+    let n = nfs.proc_of args in
+    let m = mapped (spelled (nfs.result_kind n) results) (nfs_answer_in n) a h in
+    subst (λ (x : Answer). IsAnswerTo (ask.Nfs args) x) m.2 (result_fits args m.0)
 
 said_fits : (asked : Ask) (dst : Addr) (from : ℕ) (said : Said) (a : Answer) → verdict_of asked dst from said ≡ Some (Ok a) → IsAnswerTo asked a
 said_fits asked dst from (Ok results) a h =

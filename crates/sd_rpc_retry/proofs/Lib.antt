@@ -4,6 +4,7 @@ pub mod Lawfulness
 pub mod Failing
 pub mod Sent
 pub mod Settling
+pub mod Rows
 pub mod Listening
 pub mod Tried
 pub mod Trying
@@ -13,5 +14,8 @@ pub mod Tallying
 pub mod ShortArgs
 pub mod Known
 pub mod MatchLaws
+pub mod NfsShapes
+pub mod Typed
+pub mod ShortCred
 pub mod MatchLaw
 pub mod Fitting

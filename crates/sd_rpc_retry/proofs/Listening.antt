@@ -1,6 +1,7 @@
 -- What the client knows while it waits for a packet that matches.
 use Rattle.std.proofs.Common.{◌≡◌, inl, inr, ℕ, ◌+◌, ◌<◌, ◌≤◌, List, [], ◌∷◌, ◌++◌, length, Option, Some, None, Result, Ok, Err, refl, sym, ◌∙◌, ap, subst, arith, append_assoc, length-append}
 use Rattle.std.proofs.lemmas.List.{append-nil}
+use Rattle.std.specs.Prelude.{map}
 use Rattle.sd_outside.specs.declared.packet.Packet.{Packet}
 use Rattle.sd_link.specs.Steps.{Step, Send, Get, Fail, History}
 use Rattle.sd_link.specs.World.{World}
@@ -8,7 +9,7 @@ use Rattle.sd_link.specs.Parts.{sends_in, got_in}
 use Rattle.sd_link.specs.declared.link.LinkError.{LinkError}
 use Rattle.sd_link.specs.declared.link.LinkError.TheVariants.{Failed, NoMemory}
 use Rattle.sd_link.specs.Link.{GoesOn, Moves, Receives, Sends}
-use Rattle.sd_link.specs.Tries.{Hearing, AreUnmatched, FailsToHear, at_wait, at_reply, flood_limit}
+use Rattle.sd_link.specs.Tries.{Hearing, AreUnmatched, EndsWithPacket, FailsToHear, at_wait, at_reply, flood_limit}
 use Rattle.sd_link.proofs.Histories.{sends-append, got-append, moves_then, moves_weaker}
 use Rattle.sd_rpc_retry.specs.Lasting.{StaysBefore}
 use Rattle.sd_rpc_retry.specs.Asking.{Looks, Hears, IsReplied}
@@ -18,15 +19,16 @@ use Rattle.sd_rpc_retry.specs.declared.asking.Heard.TheVariants as heard
 use Rattle.sd_rpc_retry.proofs.Getting.{stays_then, at_end, replied-append, replied-nothing, replied-one, unmatched-append, unmatched-nothing}
 use Rattle.sd_rpc_retry.proofs.Settling.{settled-then}
 
--- so many packets were got, and none matched
+-- so many packets were got, and none matched; where there was one, nothing came after it
 pub record Quiet {S : Type 0} (h : Hearing S) (until count : ℕ) (old : History) (part : List Step) : Type 0 where
   pub ticks : StaysBefore until old part
   pub replied : IsReplied h part
   pub unmatched : AreUnmatched h.match (got_in part)
   pub counted : length (got_in part) ≡ count
+  pub last : 0 < count → EndsWithPacket h.replies part
 
 pub quiet_none : {S : Type 0} (h : Hearing S) (until : ℕ) (old : History) → Quiet h until 0 old []
-quiet_none h until old = record { ticks = tt; replied = replied-nothing h [] refl refl; unmatched = tt; counted = refl }
+quiet_none h until old = record { ticks = tt; replied = replied-nothing h [] refl refl; unmatched = tt; counted = refl; last = λ some. absurd (omega (arith, some)) }
 
 -- one packet more was got, and isn't looked at yet
 pub record Got {S : Type 0} (h : Hearing S) (until count : ℕ) (packet : Packet) (old : History) (part : List Step) : Type 0 where
@@ -92,13 +94,12 @@ module _ {S : Type 0} (h : Hearing S) (until count : ℕ) (a b : History) (xs ys
       let none : got_in front ≡ [] = front_nothing front (ap got_in (sym r.hands.1) ∙ r.hands.2) in
       let silent : sends_in front ≡ [] = front_silent front (ap sends_in (sym r.hands.1) ∙ r.silent) in
       let whole : xs ++ ys ≡ (xs ++ front) ++ Fail ∷ [] = ap (λ (l : List Step). xs ++ l) r.hands.1 ∙ sym (append_assoc xs front (Fail ∷ [])) in
-      let many : length (got_in (xs ++ ys)) ≡ count = ap length (got-append xs ys) ∙ ap (λ (l : List Packet). length (got_in xs ++ l)) r.hands.2 ∙ ap length (append-nil (got_in xs)) ∙ q.counted in
+      let many : length (got_in (xs ++ front)) ≡ count = ap length (got-append xs front) ∙ ap (λ (l : List Packet). length (got_in xs ++ l)) none ∙ ap length (append-nil (got_in xs)) ∙ q.counted in
       record {
         ticks = stays_then a b xs ys until goes q.ticks r.ticks;
         found = (
-          subst (FailsToHear h) (sym whole) (at_wait (xs ++ front) (replied-append h xs front q.replied (replied-nothing h front silent none))),
+          subst (FailsToHear h) (sym whole) (at_wait (xs ++ front) (replied-append h xs front q.replied (replied-nothing h front silent none)) (omega (arith, few, many))),
           unmatched-append h.match xs ys q.unmatched (unmatched-nothing h.match ys r.hands.2),
-          omega (arith, few, many),
         );
       }
 
@@ -132,6 +133,7 @@ module _ {S : Type 0} (h : Hearing S) (until count : ℕ) (packet : Packet) (a :
         replied = subst (IsReplied h) (sym g.cut) (replied-append h g.before last g.replied replied);
         unmatched = subst (λ (l : List Step). AreUnmatched h.match (got_in l)) (sym g.cut) (unmatched-append h.match g.before last g.unmatched (unmatched, tt));
         counted = ap (λ (l : List Step). length (got_in l)) g.cut ∙ count_one g.before g.id packet [] count refl g.counted;
+        last = λ some. record { before = g.before; id = g.id; packet = packet; cut = g.cut ∙ ap (λ (l : List Packet). g.before ++ Get g.id packet ∷ map Send l) (sym none) };
       }
 
   -- something is sent for it
@@ -145,6 +147,7 @@ module _ {S : Type 0} (h : Hearing S) (until count : ℕ) (packet : Packet) (a :
         replied = subst (IsReplied h) (sym whole) (replied-append h g.before last g.replied replied);
         unmatched = subst (λ (l : List Step). AreUnmatched h.match (got_in l)) (sym whole) (unmatched-append h.match g.before last g.unmatched (unmatched, tt));
         counted = ap (λ (l : List Step). length (got_in l)) whole ∙ count_one g.before g.id packet (Send sent ∷ []) count refl g.counted;
+        last = λ some. record { before = g.before; id = g.id; packet = packet; cut = whole ∙ ap (λ (l : List Packet). g.before ++ Get g.id packet ∷ map Send l) (sym is) };
       }
 
   -- something is sent for it, and that failed
@@ -153,13 +156,11 @@ module _ {S : Type 0} (h : Hearing S) (until count : ℕ) (packet : Packet) (a :
   hears_unsent shows b ys sent few goes unmatched is sends =
       let none = unsent_nothing sent b ys sends in
       let whole : xs ++ ys ≡ g.before ++ Get g.id packet ∷ ys = ap (λ (l : List Step). l ++ ys) g.cut ∙ append_assoc g.before (Get g.id packet ∷ []) ys in
-      let many : length (got_in (xs ++ ys)) ≡ count + 1 = ap (λ (l : List Step). length (got_in l)) whole ∙ count_one g.before g.id packet ys count none g.counted in
       record {
         ticks = stays_then a b xs ys until goes g.ticks (sent_stays until sent (Err Failed) b ys sends);
         found = (
-          subst (FailsToHear h) (sym whole) (at_reply g.before g.id packet sent ys g.replied is sends),
+          subst (FailsToHear h) (sym whole) (at_reply g.before g.id packet sent ys g.replied (omega (arith, few, g.counted)) is sends),
           subst (λ (l : List Step). AreUnmatched h.match (got_in l)) (sym whole) (unmatched-append h.match g.before (Get g.id packet ∷ ys) g.unmatched (one_got h.match g.id packet ys none unmatched)),
-          omega (arith, few, many),
         );
       }
 
@@ -179,7 +180,7 @@ module _ {S : Type 0} (h : Hearing S) (until count : ℕ) (packet : Packet) (a :
       }
 
 pub hears_flood : {S T : Type 0} (h : Hearing S) (shows : T → S) (until : ℕ) (old : History) (part : List Step) → Quiet h until flood_limit old part → Hears h shows until heard.Flood old part
-hears_flood h shows until old part q = record { ticks = q.ticks; found = (q.replied, q.unmatched, q.counted) }
+hears_flood h shows until old part q = record { ticks = q.ticks; found = (q.replied, q.unmatched, q.counted, q.last (omega arith)) }
 
 -- ---- what a link tells
 

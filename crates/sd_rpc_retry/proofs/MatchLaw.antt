@@ -23,6 +23,14 @@ use Rattle.sd_bootparams.specs.Layout.{ip_value}
 use Rattle.sd_bootparams.specs.declared.message.BpResult.{BpResult}
 use Rattle.sd_bootparams.specs.declared.message.BpResult.TheVariants as bp
 use Rattle.sd_bootparams.proofs.Read.{read_is_result_of}
+use Rattle.sd_mount.specs.Layout as mount
+use Rattle.sd_mount.specs.Laws as mount_laws
+use Rattle.sd_mount.proofs.Read.{result_one_spelling_of as mnt_one_spelling_of}
+use Rattle.sd_nfs_msg.specs.Layout as nfs
+use Rattle.sd_nfs_msg.specs.Laws as nfs_laws
+use Rattle.sd_nfs_msg.specs.declared.message.NfsResult.{NfsResult}
+use Rattle.sd_nfs_msg.proofs.Read.{result_one_spelling_of as nfs_one_spelling_of}
+use Rattle.sd_rpc_retry.specs.NfsResults.{nfs_result_in}
 use Rattle.sd_rpc_retry.specs.declared.calling.Ask.{Ask}
 use Rattle.sd_rpc_retry.specs.declared.calling.Ask.TheVariants as ask
 use Rattle.sd_rpc_retry.specs.declared.calling.Answer.{Answer}
@@ -30,9 +38,10 @@ use Rattle.sd_rpc_retry.specs.declared.calling.Answer.TheVariants as answer
 use Rattle.sd_services.specs.RpcCalls.{spelled}
 use Rattle.sd_portmap.specs.Layout.{pmap_port}
 use Rattle.sd_services.specs.RpcReply.{address_in}
-use Rattle.sd_rpc_retry.specs.Calling.{Said, Verdict, is_everyone, is_relayed, comes_from, is_at, and_then, port_in, whoami_in, getfile_in, relayed_in, bootparams_says, answer_in, verdict_of, verdict_in, reply_says, message_says}
+use Rattle.sd_rpc_retry.specs.Calling.{Said, Verdict, is_everyone, is_relayed, comes_from, is_at, and_then, port_in, whoami_in, getfile_in, given_in, nfs_answer, nfs_answer_in, relayed_in, bootparams_says, answer_in, verdict_of, verdict_in, reply_says, message_says}
 use Rattle.sd_rpc_retry.specs.Matches.{TellsResult, Tells, Decides, MayReply, Matches, CarriesBytes, VerdictIsMatch}
 use Rattle.sd_services.proofs.Spelled.{spelled_some, reads_of, shape_of, bytes_back, counted_bytes}
+use Rattle.sd_rpc_retry.proofs.NfsShapes.{result_again, given_again, nfs_shape, mnt_shape}
 use Rattle.sd_rpc_retry.proofs.MatchLaws.{port_shape, relayed_shape, whoami_shape, getfile_shape, outcome_of}
 
 -- ---- tests
@@ -112,20 +121,26 @@ address_is address small = omega (arith, small)
 
 answers : (asked : Ask) (dst : Addr) (from : ℕ) (results : List ℕ) (a : Answer) → Tells asked dst from results a → answer_in asked dst from results ≡ Some a
 answers (ask.Getport prog vers) dst from results (answer.Port port) h = ap port_in (spelled_some (portmap.result_kind 3) results (portmap.result_value (pmap.Port port)) h)
-answers (ask.Getport prog vers) dst from results (answer.Whoami at client domain router) h = absurd h
-answers (ask.Getport prog vers) dst from results (answer.Getfile at server ip path) h = absurd h
-answers (ask.Whoami address) dst from results (answer.Port port) h = absurd h
+answers (ask.Getport prog vers) dst from results other h = absurd h
 answers (ask.Whoami address) dst from results (answer.Whoami at client domain router) h =
     let fits = of_result (is_relayed dst) 1 results (bp.Whoami client domain router) h.1 in
     ap (option_map (whoami_in from)) (says_result (is_relayed dst) 1 results (bp.Whoami client domain router) h.1)
     ∙ (λ i. Some (answer.Whoami (sym h.0 i) client domain (address_is router fits.2 i)))
-answers (ask.Whoami address) dst from results (answer.Getfile at server ip path) h = absurd h
-answers (ask.Getfile client key) dst from results (answer.Port port) h = absurd h
-answers (ask.Getfile client key) dst from results (answer.Whoami at name domain router) h = absurd h
+answers (ask.Whoami address) dst from results other h = absurd h
 answers (ask.Getfile client key) dst from results (answer.Getfile at server ip path) h =
     let fits = of_result (is_relayed dst) 2 results (bp.Getfile server ip path) h.1 in
     ap (option_map (getfile_in from)) (says_result (is_relayed dst) 2 results (bp.Getfile server ip path) h.1)
     ∙ (λ i. Some (answer.Getfile (sym h.0 i) server (address_is ip fits.1 i) path))
+answers (ask.Getfile client key) dst from results other h = absurd h
+answers (ask.Mnt path) dst from results a (r, reads, is) =
+    let fits = (mnt_one_spelling_of 1 r results reads).2 in
+    ap (option_map given_in) (spelled_some (mount.result_kind 1) results (mount.result_value r) reads)
+    ∙ ap Some (given_again r a (λ status e. (subst mount_laws.IsResult e fits).1) is)
+answers (ask.Nfs args) dst from results a (r, reads, is) =
+    let fits = nfs_one_spelling_of (nfs.proc_of args) r results reads in
+    ap (option_map (nfs_answer_in (nfs.proc_of args))) (spelled_some (nfs.result_kind (nfs.proc_of args)) results (nfs.result_value r) reads)
+    ∙ ap (λ (x : NfsResult). Some (nfs_answer x)) (result_again (nfs.proc_of args) r fits.1 (λ status e. (subst nfs_laws.IsResult e fits.2).1))
+    ∙ ap Some is
 
 -- and back
 relayed_inner : (results inner : List ℕ) → IsBytes results → option_map relayed_in (spelled (portmap.result_kind 5) results) ≡ Some inner
@@ -165,6 +180,15 @@ tells_of (ask.Getfile client key) dst from results a fits said =
     let m = mapped (bootparams_says 2 (is_relayed dst) results) (getfile_in from) a said in
     subst (λ (x : Answer). Tells (ask.Getfile client key) dst from results x) m.2
     (refl, result_said (is_relayed dst) 2 results m.0 _ fits (getfile_shape m.0 (said_shape (is_relayed dst) 2 results m.0 fits m.1)) m.1)
+tells_of (ask.Mnt path) dst from results a fits said =
+    let m = mapped (spelled (mount.result_kind 1) results) given_in a said in
+    let k = mnt_shape m.0 (shape_of (mount.result_kind 1) results m.0 fits m.1) in
+    (k.result, subst (λ (u : Value). Reads whole (mount.result_kind 1) results u) k.is (reads_of (mount.result_kind 1) results m.0 fits m.1), k.told ∙ ap Some m.2)
+tells_of (ask.Nfs args) dst from results a fits said =
+    let n = nfs.proc_of args in
+    let m = mapped (spelled (nfs.result_kind n) results) (nfs_answer_in n) a said in
+    let is = nfs_shape args m.0 (shape_of (nfs.result_kind n) results m.0 fits m.1) in
+    (nfs_result_in n m.0, subst (λ (u : Value). Reads whole (nfs.result_kind n) results u) is (reads_of (nfs.result_kind n) results m.0 fits m.1), m.2)
 
 decided : (asked : Ask) (dst : Addr) (from : ℕ) (outcome : Outcome) (verdict : Verdict) → Decides asked dst from outcome verdict → verdict_of asked dst from (reply_says (outcome_value outcome)) ≡ Some verdict
 decided asked dst from (Success verf results) (Ok a) h = ap (option_map Ok) (answers asked dst from results a h)

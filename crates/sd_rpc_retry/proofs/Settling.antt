@@ -16,6 +16,10 @@ use Rattle.sd_link.proofs.Histories.{run-append, record-append, record-goes, wor
 
 -- ---- steps one after another
 
+-- beyond one part and then another
+pub beyond-both : (settled : List Step → Type 0) (xs ys : List Step) → beyond settled (xs ++ ys) ≡ beyond (beyond settled xs) ys
+beyond-both settled xs ys = λ i steps. settled (append_assoc xs ys steps i)
+
 pub ends_later : (xs ys : List Step) → EndsWithGet ys → EndsWithGet (xs ++ ys)
 ends_later xs ys e = (xs ++ e.0, e.1, e.2, ap (λ (l : List Step). xs ++ l) e.3 ∙ sym (append_assoc xs e.0 (Get e.1 e.2 ∷ [])))
 

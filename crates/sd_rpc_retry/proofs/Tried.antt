@@ -42,15 +42,15 @@ tried request h shows wait now Flood a b xs ys goes is at e = record {
   replied = e.found.0;
   short = short wait now b ys at e.ticks;
   most = omega (arith, e.found.2);
-  ending = record { unmatched = e.found.1; many = e.found.2 };
+  ending = record { unmatched = e.found.1; many = e.found.2; ends = e.found.3 };
 }
 tried request h shows wait now Fault a b xs ys goes is at e =
-    subst (IsFailed request h wait) (sym (ap (λ (l : List Step). l ++ ys) is)) (record { failed = behind_request ys e.found.0; unmatched = e.found.1; short = short wait now b ys at e.ticks; most = e.found.2 })
+    subst (IsFailed request h wait) (sym (ap (λ (l : List Step). l ++ ys) is)) (record { failed = behind_request ys e.found.0; unmatched = e.found.1; short = short wait now b ys at e.ticks })
 
 -- the request couldn't be sent
 unsent : {S : Type 0} (request : Packet) (h : Hearing S) (wait : ℕ) (a : History) (part : List Step) → Sends request (Err Failed) a part → IsFailed request h wait part
-unsent request h wait a part (inl is) = record { failed = at_request part (inl is); unmatched = subst (λ (l : List Step). AreUnmatched h.match (got_in l)) (sym is) tt; short = omega (arith, ap ticks_in is); most = omega (arith, ap (λ (l : List Step). length (got_in l)) is) }
-unsent request h wait a part (inr is) = record { failed = at_request part (inr is); unmatched = subst (λ (l : List Step). AreUnmatched h.match (got_in l)) (sym is) tt; short = omega (arith, ap ticks_in is); most = omega (arith, ap (λ (l : List Step). length (got_in l)) is) }
+unsent request h wait a part (inl is) = record { failed = at_request part (inl is); unmatched = subst (λ (l : List Step). AreUnmatched h.match (got_in l)) (sym is) tt; short = omega (arith, ap ticks_in is) }
+unsent request h wait a part (inr is) = record { failed = at_request part (inr is); unmatched = subst (λ (l : List Step). AreUnmatched h.match (got_in l)) (sym is) tt; short = omega (arith, ap ticks_in is) }
 
 pub tries_unsent : {S T : Type 0} (old new : Option History) (request : Packet) (h : Hearing S) (shows : T → S) (wait : ℕ) (why : LinkError) → why ≡ Failed → Moves old new (Sends request (Err why)) → Moves old new (Tried request h shows wait Fault)
 tries_unsent old new request h shows wait why is m =

@@ -100,6 +100,7 @@ module _ {S T : Type 0} (request : Packet) (h : Hearing S) (shows : T → S) (wa
     came = record {
       asks = ends tries _ lt t;
       many = t.ending.many;
+      ends = t.ending.ends;
       unmatched = unmatched_try h request xs t.rest ys t.cut v.unmatched t.ending.unmatched;
     };
     ended = λ silent was. sends_more t.rest t.cut t.replied silent was;
@@ -117,7 +118,6 @@ module _ {S T : Type 0} (request : Packet) (h : Hearing S) (shows : T → S) (wa
       vain = v.vain;
       fails = t.failed;
       short = t.short;
-      most = t.most;
       unmatched = unmatched-append h.match xs ys v.unmatched t.unmatched;
       cut = refl;
     };

@@ -6,7 +6,7 @@ use Rattle.sd_config.specs.Events.{fates_of}
 use Rattle.sd_link.specs.Parts.{got_in, ticks_in}
 use Rattle.sd_link.specs.Lawful.{SendsSettled}
 use Rattle.sd_link.specs.Link.{NothingWaits, IsSettledBy}
-use Rattle.sd_link.specs.Tries.{Hearing, AreUnmatched, RepliesAtOnce, EndsMatched, Answered, Flooded, TimedOut, FailsToHear, FailsToAsk, Failed, flood_limit}
+use Rattle.sd_link.specs.Tries.{Hearing, AreUnmatched, RepliesAtOnce, EndsMatched, EndsWithPacket, Answered, Flooded, TimedOut, FailsToHear, FailsToAsk, Failed, flood_limit}
 use Rattle.sd_rpc_retry.specs.Lasting.{StaysBefore}
 use Rattle.sd_rpc_retry.specs.declared.asking.Look.{Look}
 use Rattle.sd_rpc_retry.specs.declared.asking.Look.TheVariants.{Match, Reply, Other}
@@ -36,23 +36,11 @@ IsNotFound heard.Nothing = Unit {0}
 IsNotFound heard.Flood = Unit {0}
 IsNotFound heard.Fault = Unit {0}
 
-abbrev pub IsHeardFault : {T : Type 0} → Heard T → Type 0
-IsHeardFault (heard.Found x) = ⊥
-IsHeardFault heard.Nothing = ⊥
-IsHeardFault heard.Flood = ⊥
-IsHeardFault heard.Fault = Unit {0}
-
 abbrev pub IsNoAnswer : {T : Type 0} → Asked T → Type 0
 IsNoAnswer (asked.Answer x) = ⊥
 IsNoAnswer asked.Timeout = Unit {0}
 IsNoAnswer asked.Flood = Unit {0}
 IsNoAnswer asked.Fault = Unit {0}
-
-abbrev pub IsAskedFault : {T : Type 0} → Asked T → Type 0
-IsAskedFault (asked.Answer x) = ⊥
-IsAskedFault asked.Timeout = ⊥
-IsAskedFault asked.Flood = ⊥
-IsAskedFault asked.Fault = Unit {0}
 
 -- what was found is what some packet means
 abbrev pub IsFound : {S T : Type 0} → Hearing S → (T → S) → Heard T → Type 0
@@ -78,8 +66,8 @@ abbrev pub Found : {S T : Type 0} → Hearing S → (T → S) → ℕ → Heard 
 Found h shows until (heard.Found x) old part = IsReplied h part × EndsMatched h.match (shows x) part × (length (got_in part) ≤ flood_limit)
 Found h shows until heard.Nothing old part =
     IsReplied h part × AreUnmatched h.match (got_in part) × (until ≤ (run old.config (world_of old) part).tick) × (length (got_in part) < flood_limit) × IsSettledBy old part
-Found h shows until heard.Flood old part = IsReplied h part × AreUnmatched h.match (got_in part) × (length (got_in part) ≡ flood_limit)
-Found h shows until heard.Fault old part = FailsToHear h part × AreUnmatched h.match (got_in part) × (length (got_in part) ≤ flood_limit)
+Found h shows until heard.Flood old part = IsReplied h part × AreUnmatched h.match (got_in part) × (length (got_in part) ≡ flood_limit) × EndsWithPacket h.replies part
+Found h shows until heard.Fault old part = FailsToHear h part × AreUnmatched h.match (got_in part)
 
 -- what was heard until a tick
 pub record Hears {S T : Type 0} (h : Hearing S) (shows : T → S) (until : ℕ) (what : Heard T) (old : History) (part : List Step) : Type 0 where
@@ -106,13 +94,13 @@ pub record IsVain {S : Type 0} (h : Hearing S) (wait : ℕ) (rest : List Step) :
 pub record IsFlooded {S : Type 0} (h : Hearing S) (rest : List Step) : Type 0 where
   pub unmatched : AreUnmatched h.match (got_in rest)
   pub many : length (got_in rest) ≡ flood_limit
+  pub ends : EndsWithPacket h.replies rest
 
 -- a try in which the network failed
 pub record IsFailed {S : Type 0} (request : Packet) (h : Hearing S) (wait : ℕ) (part : List Step) : Type 0 where
   pub failed : FailsToAsk request h part
   pub unmatched : AreUnmatched h.match (got_in part)
   pub short : ticks_in part ≤ wait
-  pub most : length (got_in part) ≤ flood_limit
 
 abbrev pub Tried : {S T : Type 0} → Packet → Hearing S → (T → S) → ℕ → Heard T → History → List Step → Type 0
 Tried request h shows wait (heard.Found x) old part = IsTry request h wait (EndsMatched h.match (shows x)) part

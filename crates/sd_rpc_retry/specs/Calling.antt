@@ -1,5 +1,5 @@
--- What is sent for a call of a procedure, and what a datagram tells its caller (RFC 1057; bootparam_prot.x of SunOS). That this is
--- what the grammars say of replies is `VerdictIsMatch` of Matches.antt.
+-- What is sent for a call of a procedure, and what a datagram tells its caller (RFC 1057; RFC 1094; bootparam_prot.x of SunOS). That
+-- this is what the grammars say of replies is `VerdictIsMatch` of Matches.antt.
 use Rattle.std.specs.Prelude.{ℕ, ◌+◌, ◌-◌, ◌^◌, ◌≤◌, ◌==◌, ◌&&◌, ◌||◌, Bool, if◌then◌else◌, List, [], length, Option, Some, None, Result, Ok, Err}
 use Rattle.std.specs.Option.{option_map}
 use Rattle.sd_outside.specs.declared.packet.Addr.{Addr}
@@ -8,6 +8,9 @@ use Rattle.sd_outside.specs.declared.packet.Packet.TheVariants.{Frame, Udp}
 use Rattle.sd_xdr.specs.Kind.{Value, number_of, bytes_of, first, second}
 use Rattle.sd_xdr.specs.Grammar.{writes}
 use Rattle.sd_rpc_msg.specs.declared.message.Call.{Call}
+use Rattle.sd_rpc_msg.specs.declared.message.OpaqueAuth.{OpaqueAuth}
+use Rattle.sd_rpc_msg.specs.declared.unix.UnixCred.{UnixCred}
+use Rattle.sd_rpc_msg.specs.Unix.{unix, unix_value}
 use Rattle.sd_rpc_msg.specs.declared.message.Message.TheVariants.{Asked}
 use Rattle.sd_rpc_msg.specs.Layout.{message, message_value}
 use Rattle.sd_portmap.specs.declared.message.PmapArgs.{PmapArgs}
@@ -16,6 +19,13 @@ use Rattle.sd_portmap.specs.Layout as portmap
 use Rattle.sd_bootparams.specs.declared.message.BpArgs.{BpArgs}
 use Rattle.sd_bootparams.specs.declared.message.BpArgs.TheVariants as bp
 use Rattle.sd_bootparams.specs.Layout as bootparams
+use Rattle.sd_mount.specs.declared.message.MountArgs.{MountArgs}
+use Rattle.sd_mount.specs.declared.message.MountArgs.TheVariants as mnt
+use Rattle.sd_mount.specs.Layout as mount
+use Rattle.sd_nfs_msg.specs.declared.message.NfsArgs.{NfsArgs}
+use Rattle.sd_nfs_msg.specs.declared.message.NfsResult.{NfsResult}
+use Rattle.sd_nfs_msg.specs.declared.message.NfsResult.TheVariants as results
+use Rattle.sd_nfs_msg.specs.Layout as nfs
 use Rattle.sd_services.specs.RpcCalls.{spelled, auth_null}
 use Rattle.sd_portmap.specs.Layout.{pmap_port}
 use Rattle.sd_services.specs.RpcReply.{address_in}
@@ -27,6 +37,7 @@ use Rattle.sd_rpc_retry.specs.declared.calling.Answer.TheVariants as answer
 use Rattle.sd_rpc_retry.specs.declared.calling.Caller.{Caller}
 use Rattle.sd_rpc_retry.specs.declared.question.Named.{Named}
 use Rattle.sd_rpc_retry.specs.declared.question.Located.{Located}
+use Rattle.sd_rpc_retry.specs.NfsResults.{nfs_result_in}
 
 -- ---- where calls go
 
@@ -40,9 +51,23 @@ is_relayed dst = dst.port == pmap_port || is_everyone dst
 
 -- ---- the call
 
--- call_body (RFC 1057, section 8): a procedure of a program's version, with its arguments
+-- AUTH_UNIX (RFC 1057, section 9.2): user 0 of the machine, in group 0 and in no other, at stamp 0
+abbrev pub user_of : List ℕ → UnixCred
+user_of machine = record { stamp = 0; machine = machine; uid = 0; gid = 0; gids = [] }
+
+unfoldable pub unix_body : List ℕ → List ℕ
+unix_body machine = writes unix (unix_value (user_of machine))
+
+abbrev pub auth_unix : List ℕ → OpaqueAuth
+auth_unix machine = record { flavor = 1; body = unix_body machine }
+
+-- call_body (RFC 1057, section 8): a procedure of a program's version, with credentials and its arguments
+abbrev pub call_as : OpaqueAuth → ℕ → ℕ → ℕ → ℕ → List ℕ → Call
+call_as cred xid prog vers proc_no args = record { xid = xid; prog = prog; vers = vers; proc_no = proc_no; cred = cred; verf = auth_null; args = args }
+
+-- without credentials
 abbrev pub call_of : ℕ → ℕ → ℕ → ℕ → List ℕ → Call
-call_of xid prog vers proc_no args = record { xid = xid; prog = prog; vers = vers; proc_no = proc_no; cred = auth_null; verf = auth_null; args = args }
+call_of xid prog vers proc_no args = call_as auth_null xid prog vers proc_no args
 
 -- PMAP_PROG, PMAP_VERS (RFC 1057, appendix A)
 abbrev pub pmap_call : ℕ → PmapArgs → Call
@@ -54,17 +79,29 @@ bootparams_call xid relayed args =
     if relayed then pmap_call xid (pmap.Callit 100026 1 (bootparams.proc_of args) (bootparams.args_bytes args))
     else call_of xid 100026 1 (bootparams.proc_of args) (bootparams.args_bytes args)
 
--- A program's port is asked for over UDP, IP protocol 17; the port in the mapping doesn't count.
-abbrev pub call_for : ℕ → Addr → Ask → Call
-call_for xid dst (ask.Getport prog vers) = pmap_call xid (pmap.Getport (record { prog = prog; vers = vers; prot = 17; port = 0 }))
-call_for xid dst (ask.Whoami ip) = bootparams_call xid (is_relayed dst) (bp.Whoami ip)
-call_for xid dst (ask.Getfile client key) = bootparams_call xid (is_relayed dst) (bp.Getfile client key)
+-- MOUNTPROG, MOUNTVERS (RFC 1094, appendix A)
+abbrev pub mount_call : List ℕ → ℕ → MountArgs → Call
+mount_call machine xid args = call_as (auth_unix machine) xid 100005 1 (mount.proc_of args) (mount.args_bytes args)
+
+-- NFS_PROGRAM, NFS_VERSION (RFC 1094, section 2.2)
+abbrev pub nfs_call : List ℕ → ℕ → NfsArgs → Call
+nfs_call machine xid args = call_as (auth_unix machine) xid 100003 2 (nfs.proc_of args) (nfs.args_bytes args)
+
+-- A program's port is asked for over UDP, IP protocol 17; the port in the mapping doesn't count. MOUNT and NFS are told the machine.
+abbrev pub call_for : List ℕ → ℕ → Addr → Ask → Call
+call_for machine xid dst (ask.Getport prog vers) = pmap_call xid (pmap.Getport (record { prog = prog; vers = vers; prot = 17; port = 0 }))
+call_for machine xid dst (ask.Whoami ip) = bootparams_call xid (is_relayed dst) (bp.Whoami ip)
+call_for machine xid dst (ask.Getfile client key) = bootparams_call xid (is_relayed dst) (bp.Getfile client key)
+call_for machine xid dst (ask.Mnt path) = mount_call machine xid (mnt.Mnt path)
+call_for machine xid dst (ask.Nfs args) = nfs_call machine xid args
 
 -- what has a spelling
 abbrev pub AskFits : Ask → Type 0
 AskFits (ask.Getport prog vers) = Unit {0}
 AskFits (ask.Whoami ip) = Unit {0}
 AskFits (ask.Getfile client key) = (length client ≤ bootparams.name_limit) × (length key ≤ bootparams.key_limit)
+AskFits (ask.Mnt path) = length path ≤ mount.path_limit
+AskFits (ask.Nfs args) = nfs.ArgsFit args
 
 -- where the caller is
 abbrev pub home : Caller → Addr
@@ -72,7 +109,7 @@ home caller = record { ip = caller.ip; port = caller.port }
 
 -- the datagram with the call
 abbrev pub request : Caller → Addr → Ask → Packet
-request caller dst asked = Udp (home caller) dst (writes message (message_value (Asked (call_for caller.next_xid dst asked))))
+request caller dst asked = Udp (home caller) dst (writes message (message_value (Asked (call_for caller.machine caller.next_xid dst asked))))
 
 -- ---- the reply
 
@@ -138,11 +175,28 @@ bootparams_results relayed results = if relayed then option_map relayed_in (spel
 abbrev pub bootparams_says : ℕ → Bool → List ℕ → Option Value
 bootparams_says proc_no relayed results = and_then (bootparams_results relayed results) (spelled (bootparams.result_kind proc_no))
 
+-- fhstatus (RFC 1094, appendix A), behind the place of the result: 0 with a handle, or the status of a refusal
+abbrev pub given_in : Value → Answer
+given_in v =
+    let status = number_of (first (second v)) in
+    if status == 0 then answer.Given (record { 0 = bytes_of (second (second v)) }) else answer.Refused status
+
+-- a status other than NFS_OK refuses (RFC 1094, section 2.3.1)
+abbrev pub nfs_answer : NfsResult → Answer
+nfs_answer (results.Refused status) = answer.Refused status
+nfs_answer done = answer.Nfs done
+
+-- the same of a result of a procedure, by its value
+abbrev pub nfs_answer_in : ℕ → Value → Answer
+nfs_answer_in proc_no v = nfs_answer (nfs_result_in proc_no v)
+
 -- What results from this address tell of what was asked.
 abbrev pub answer_in : Ask → Addr → ℕ → List ℕ → Option Answer
 answer_in (ask.Getport prog vers) dst from results = port_in (spelled (portmap.result_kind 3) results)
 answer_in (ask.Whoami ip) dst from results = option_map (whoami_in from) (bootparams_says 1 (is_relayed dst) results)
 answer_in (ask.Getfile client key) dst from results = option_map (getfile_in from) (bootparams_says 2 (is_relayed dst) results)
+answer_in (ask.Mnt path) dst from results = option_map given_in (spelled (mount.result_kind 1) results)
+answer_in (ask.Nfs args) dst from results = option_map (nfs_answer_in (nfs.proc_of args)) (spelled (nfs.result_kind (nfs.proc_of args)) results)
 
 -- what a call comes to: an answer, or the number of a refusal
 abbrev pub Verdict : Type 0

@@ -1,8 +1,9 @@
 -- What came of a call, in the words of asking.
-use Rattle.std.specs.Prelude.{ℕ, ◌≤◌, List, length, Result, Ok, Err}
+use Rattle.std.specs.Prelude.{◌≡◌, ℕ, ◌≤◌, List, length, Result, Ok, Err}
 use Rattle.sd_outside.specs.declared.errors.NoMemory.{NoMemory}
 use Rattle.sd_outside.specs.declared.packet.Addr.{Addr}
 use Rattle.sd_bootparams.specs.Layout.{name_limit, path_limit}
+use Rattle.sd_nfs_msg.specs.Layout as nfs
 use Rattle.sd_link.specs.Steps.{Step, History}
 use Rattle.sd_rpc_retry.specs.declared.asking.Asked.{Asked}
 use Rattle.sd_rpc_retry.specs.declared.asking.Asked.TheVariants as asked
@@ -39,14 +40,17 @@ WasSent caller dst asked tally came = IsTallied (request caller dst asked) (hear
 abbrev pub IsTold : {T : Type 0} → Caller → Addr → Ask → (T → Answer) → Asked (Result T ℕ) → Type 0
 IsTold caller dst asked shown came = IsAnswer (hearing_of caller dst asked) (shown_as shown) came
 
--- an answer is of the kind that was asked for, and its texts are within the limits of bootparams
+-- an answer is of the kind that was asked for, its texts are within the limits of bootparams, and a status that refuses isn't 0
 abbrev pub IsAnswerTo : Ask → Answer → Type 0
 IsAnswerTo (ask.Getport prog vers) (answer.Port port) = Unit {0}
-IsAnswerTo (ask.Getport prog vers) (answer.Whoami from client domain router) = ⊥
-IsAnswerTo (ask.Getport prog vers) (answer.Getfile from server ip path) = ⊥
-IsAnswerTo (ask.Whoami address) (answer.Port port) = ⊥
+IsAnswerTo (ask.Getport prog vers) other = ⊥
 IsAnswerTo (ask.Whoami address) (answer.Whoami from client domain router) = (length client ≤ name_limit) × (length domain ≤ name_limit)
-IsAnswerTo (ask.Whoami address) (answer.Getfile from server ip path) = ⊥
-IsAnswerTo (ask.Getfile client key) (answer.Port port) = ⊥
-IsAnswerTo (ask.Getfile client key) (answer.Whoami from name domain router) = ⊥
+IsAnswerTo (ask.Whoami address) other = ⊥
 IsAnswerTo (ask.Getfile client key) (answer.Getfile from server ip path) = (length server ≤ name_limit) × (length path ≤ path_limit)
+IsAnswerTo (ask.Getfile client key) other = ⊥
+IsAnswerTo (ask.Mnt path) (answer.Given file) = Unit {0}
+IsAnswerTo (ask.Mnt path) (answer.Refused status) = status ≡ 0 → ⊥
+IsAnswerTo (ask.Mnt path) other = ⊥
+IsAnswerTo (ask.Nfs args) (answer.Nfs done) = nfs.IsResultOf (nfs.proc_of args) done
+IsAnswerTo (ask.Nfs args) (answer.Refused status) = status ≡ 0 → ⊥
+IsAnswerTo (ask.Nfs args) other = ⊥

@@ -1,7 +1,10 @@
 pub mod Lasting
 pub mod Asking
 pub mod Sending
+pub mod NfsResults
 pub mod Calling
+pub mod Chain
+pub mod Questions
 pub mod Reading
 pub mod Calls
 pub mod Matches

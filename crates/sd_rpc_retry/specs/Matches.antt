@@ -1,5 +1,5 @@
 -- Which datagrams are the reply to a call, and what they tell, by the grammars of the messages.
-use Rattle.std.specs.Prelude.{◌≡◌, ◌↔◌, ℕ, ◌+◌, Bool, true, false, List, Some, Ok, Err}
+use Rattle.std.specs.Prelude.{◌≡◌, ◌↔◌, ℕ, ◌+◌, Bool, true, false, List, Option, Some, None, Ok, Err}
 use Rattle.sd_outside.specs.Bytes.{IsBytes}
 use Rattle.sd_outside.specs.declared.packet.Addr.{Addr}
 use Rattle.sd_outside.specs.declared.packet.Packet.{Packet}
@@ -15,12 +15,18 @@ use Rattle.sd_portmap.specs.declared.message.PmapResult.TheVariants as pmap
 use Rattle.sd_bootparams.specs.Laws as bootparams
 use Rattle.sd_bootparams.specs.declared.message.BpResult.{BpResult}
 use Rattle.sd_bootparams.specs.declared.message.BpResult.TheVariants as bp
+use Rattle.sd_mount.specs.Laws as mount
+use Rattle.sd_mount.specs.declared.message.MountResult.{MountResult}
+use Rattle.sd_mount.specs.declared.message.MountResult.TheVariants as mounts
+use Rattle.sd_nfs_msg.specs.Layout.{proc_of}
+use Rattle.sd_nfs_msg.specs.Laws as nfs
+use Rattle.sd_nfs_msg.specs.declared.message.NfsResult.{NfsResult}
 use Rattle.sd_rpc_retry.specs.declared.calling.Ask.{Ask}
 use Rattle.sd_rpc_retry.specs.declared.calling.Ask.TheVariants as ask
 use Rattle.sd_rpc_retry.specs.declared.calling.Answer.{Answer}
 use Rattle.sd_rpc_retry.specs.declared.calling.Answer.TheVariants as answer
 use Rattle.sd_portmap.specs.Layout.{pmap_port}
-use Rattle.sd_rpc_retry.specs.Calling.{Verdict, is_everyone, is_relayed, verdict_in}
+use Rattle.sd_rpc_retry.specs.Calling.{Verdict, is_everyone, is_relayed, nfs_answer, verdict_in}
 
 -- a result of bootparams, alone or in what a portmapper answers for PMAPPROC_CALLIT
 abbrev pub TellsResult : Bool → ℕ → List ℕ → BpResult → Type 0
@@ -28,17 +34,22 @@ TellsResult false proc_no results r = bootparams.ReadsResult proc_no results r
 TellsResult true proc_no results r =
     (port : ℕ) × (inner : List ℕ) × portmap.ReadsResult 5 results (pmap.Callit port inner) × bootparams.ReadsResult proc_no inner r
 
+-- what a result of MNTPROC_MNT answers
+abbrev pub mnt_answer : MountResult → Option Answer
+mnt_answer (mounts.Given file) = Some (answer.Given file)
+mnt_answer (mounts.Refused status) = Some (answer.Refused status)
+mnt_answer other = None
+
 -- results from this address tell this of what was asked
 abbrev pub Tells : Ask → Addr → ℕ → List ℕ → Answer → Type 0
 Tells (ask.Getport prog vers) dst from results (answer.Port port) = portmap.ReadsResult 3 results (pmap.Port port)
-Tells (ask.Getport prog vers) dst from results (answer.Whoami at client domain router) = ⊥
-Tells (ask.Getport prog vers) dst from results (answer.Getfile at server ip path) = ⊥
-Tells (ask.Whoami address) dst from results (answer.Port port) = ⊥
+Tells (ask.Getport prog vers) dst from results other = ⊥
 Tells (ask.Whoami address) dst from results (answer.Whoami at client domain router) = (at ≡ from) × TellsResult (is_relayed dst) 1 results (bp.Whoami client domain router)
-Tells (ask.Whoami address) dst from results (answer.Getfile at server ip path) = ⊥
-Tells (ask.Getfile client key) dst from results (answer.Port port) = ⊥
-Tells (ask.Getfile client key) dst from results (answer.Whoami at name domain router) = ⊥
+Tells (ask.Whoami address) dst from results other = ⊥
 Tells (ask.Getfile client key) dst from results (answer.Getfile at server ip path) = (at ≡ from) × TellsResult (is_relayed dst) 2 results (bp.Getfile server ip path)
+Tells (ask.Getfile client key) dst from results other = ⊥
+Tells (ask.Mnt path) dst from results told = (r : MountResult) × mount.ReadsResult 1 results r × (mnt_answer r ≡ Some told)
+Tells (ask.Nfs args) dst from results told = (r : NfsResult) × nfs.ReadsResult (proc_of args) results r × (nfs_answer r ≡ told)
 
 -- how a call went decides it: by its results, or by the number of the refusal
 abbrev pub Decides : Ask → Addr → ℕ → Outcome → Verdict → Type 0

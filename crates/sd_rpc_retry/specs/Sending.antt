@@ -63,6 +63,9 @@ asked_fails (Ok asked.Flood) = 0
 asked_fails (Ok asked.Fault) = 1
 asked_fails (Err none) = 0
 
+abbrev pub IsAskedFault : {T : Type 0} → Asked T → Type 0
+IsAskedFault asked = asked_fails (Ok asked) ≡ 1
+
 -- ---- a wait, and one try
 
 -- the same of these
@@ -72,6 +75,9 @@ heard_fails (Ok heard.Nothing) = 0
 heard_fails (Ok heard.Flood) = 0
 heard_fails (Ok heard.Fault) = 1
 heard_fails (Err none) = 0
+
+abbrev pub IsHeardFault : {T : Type 0} → Heard T → Type 0
+IsHeardFault heard = heard_fails (Ok heard) ≡ 1
 
 -- the client sends nothing but for what it gets
 abbrev pub IsStill : {S : Type 0} → Hearing S → History → List Step → Type 0

@@ -5,8 +5,8 @@ ghost use Rattle.sd_link.specs.Steps.{IsLawfulSoFar};
 ghost use Rattle.sd_link.specs.Link.{Moves, IsReached, last_tick};
 ghost use Rattle.sd_link.specs.Tries.{Hearing};
 ghost use Rattle.sd_rpc_retry.specs.Lasting.{Lasts, Fails, StaysBefore, most_asking_ticks};
-ghost use Rattle.sd_rpc_retry.specs.Asking.{Looks, IsNoMatch, IsNotFound, IsHeardFault, IsFound, Hears, Tried, IsNoAnswer, IsAnswer, IsAskedFault, IsAsked};
-ghost use Rattle.sd_rpc_retry.specs.Sending.{IsStill, IsStillButFor, HandedIn, HandedFor, WaitedIn, WaitedFor, IsTallied, heard_fails, asked_fails, SendsOnly, IsReply, IsAsking};
+ghost use Rattle.sd_rpc_retry.specs.Asking.{Looks, IsNoMatch, IsNotFound, IsFound, Hears, Tried, IsNoAnswer, IsAnswer, IsAsked};
+ghost use Rattle.sd_rpc_retry.specs.Sending.{IsStill, IsStillButFor, HandedIn, HandedFor, WaitedIn, WaitedFor, IsTallied, heard_fails, asked_fails, SendsOnly, IsReply, IsAsking, IsAskedFault, IsHeardFault};
 
 use sd_link::{Link, LinkError};
 use sd_outside::{NoMemory, Packet};

@@ -4,8 +4,7 @@ ghost use Rattle.sd_outside.specs.Causes.{Rose};
 ghost use Rattle.sd_link.specs.Link.{Moves, last_tick};
 ghost use Rattle.sd_rpc_retry.specs.declared.calling.CallError.TheVariants as error;
 ghost use Rattle.sd_rpc_retry.specs.Lasting.{Lasts, Fails, most_asking_ticks};
-ghost use Rattle.sd_rpc_retry.specs.Asking.{IsAskedFault};
-ghost use Rattle.sd_rpc_retry.specs.Sending.{HandedFor, WaitedFor, asked_fails};
+ghost use Rattle.sd_rpc_retry.specs.Sending.{HandedFor, WaitedFor, asked_fails, IsAskedFault};
 ghost use Rattle.sd_rpc_retry.specs.Calling.{AskFits};
 ghost use Rattle.sd_rpc_retry.specs.Calls.{asked_as, CameOf, WasSent, IsTold, IsAnswerTo};
 
@@ -13,7 +12,8 @@ use crate::asking::{Asked, Tally, ask_counting};
 use crate::question::Question;
 use crate::reply::ReplyListener;
 use sd_link::Link;
-use sd_outside::{Addr, ByteList, NoMemory};
+use sd_nfs_msg::{NfsArgs, NfsResult};
+use sd_outside::{Addr, ByteList, FHandle, NoMemory};
 use std::alloc::Global;
 
 /// What is asked of another machine.
@@ -25,6 +25,10 @@ pub enum Ask {
     Whoami { ip: u32 },
     /// Where a client, whose name has at most 255 bytes, finds the file that a key of at most 32 bytes stands for (bootparams).
     Getfile { client: ByteList, key: ByteList },
+    /// The handle of the directory or file at a path of at most 1,024 bytes (RFC 1094, appendix A).
+    Mnt { path: ByteList },
+    /// A procedure of NFS (RFC 1094, section 2.2).
+    Nfs(NfsArgs),
 }
 
 /// What was answered.
@@ -45,6 +49,14 @@ pub enum Answer {
         server: ByteList,
         ip: u32,
         path: ByteList,
+    },
+    /// The handle of what was mounted.
+    Given(FHandle),
+    /// What a procedure of NFS did.
+    Nfs(NfsResult),
+    /// MOUNT or NFS refused it with this status, which isn't 0.
+    Refused {
+        status: u32,
     },
 }
 
@@ -106,6 +118,7 @@ impl Caller {
     ) -> Result<Asked<Result<Q::Told, u32>>, NoMemory>
         requires tries { self.now.tries ≤ 64 }
         requires wait { self.now.wait ≤ 1000 }
+        requires machine { length self.now.machine ≤ 255 }
         requires fits { AskFits (Q.ask question.now) }
         ensures told { IfOk result (λ came. Moves (L.told link.old) (L.told link.new) (CameOf self.now dst (Q.ask question.now) Q.shown came)) }
         ensures tallied { Moves (L.told link.old) (L.told link.new) (WasSent self.now dst (Q.ask question.now) tally.new result) }
@@ -141,7 +154,8 @@ impl Caller {
     ///
     /// A reply goes to the caller's address and port, has the number of the call, comes from `dst`, or from port 111 of any
     /// machine where `dst` is 255.255.255.255, and its results are those of the procedure. What is asked of bootparams is
-    /// relayed by a portmapper where `dst` is its port or a broadcast.
+    /// relayed by a portmapper where `dst` is its port or a broadcast. MOUNT and NFS are told the caller's machine, by AUTH_UNIX of
+    /// its user 0; all else goes without credentials.
     pub fn call<L: Link, Q: Question>(
         &mut self,
         alloc: Global,
@@ -163,7 +177,7 @@ impl Caller {
         ensures most { tally.new.sends ≤ self.old.tries }
         // Over every link an answer and a refusal are what some packet tells.
         ensures found { IfOk (asked_as result) (IsTold self.old dst (Q.ask question.now) Q.shown) }
-        // The texts of an answer are within their limits.
+        // An answer is of the kind that was asked for, and its texts are within their limits.
         ensures answers { IfOk result (λ told. IsAnswerTo (Q.ask question.now) (Q.shown told)) }
         // They need a packet, a flood its packets, and a timeout the whole time.
         ensures handed { IfOk (asked_as result) (λ came. HandedFor came (L.handed link.old) (L.handed link.new)) }

@@ -1,5 +1,5 @@
-//! What is asked by a call of each procedure, and the type of its answer.
-ghost use Rattle.std.specs.Prelude.{◌≡◌, IfOk};
+//! What is asked by a call of a procedure, and the type of its answer: the trait, the portmapper and bootparams, and calls of any kind.
+ghost use Rattle.std.specs.Prelude.{◌≡◌, ◌≤◌, length, IfOk};
 ghost use Rattle.std.specs.Option.{option_map};
 ghost use Rattle.sd_portmap.specs.Layout as portmap;
 ghost use Rattle.sd_services.specs.RpcCalls.{spelled};
@@ -7,8 +7,9 @@ ghost use Rattle.sd_rpc_retry.specs.declared.calling.Answer.TheVariants as answe
 ghost use Rattle.sd_rpc_retry.specs.Calling.{call_for, AskFits, is_relayed, port_in, whoami_in, getfile_in, bootparams_says, answer_in, named, located};
 
 use crate::calling::{Answer, Ask};
+use crate::nfs_question::{given_answer, nfs_answer_in};
 use crate::reply::{bootparams_result_in, pmap_result_in};
-use crate::request::{getfile_call, getport_call, is_relayed, whoami_call};
+use crate::request::{getfile_call, getport_call, is_relayed, mnt_call, nfs_call, whoami_call};
 use sd_bootparams::BpResult;
 use sd_outside::{Addr, ByteList, NoMemory};
 use sd_portmap::PmapResult;
@@ -29,10 +30,11 @@ pub trait Question {
     /// What is told, as an answer.
     ghost shown: { Self.Told → Answer };
 
-    /// The call.
-    fn call(&self, alloc: Global, xid: u32, dst: Addr) -> Result<Call, NoMemory>
+    /// The call of a machine, whose name has at most 255 bytes.
+    fn call(&self, alloc: Global, machine: &ByteList, xid: u32, dst: Addr) -> Result<Call, NoMemory>
+        requires machine { length machine.now ≤ 255 }
         requires fits { AskFits (ask self.now) }
-        ensures { IfOk result (λ call. call ≡ call_for xid dst (ask self.now)) };
+        ensures { IfOk result (λ call. call ≡ call_for machine.now xid dst (ask self.now)) };
 
     /// What results from this address tell, or nothing where they are none of this procedure.
     fn told(
@@ -142,8 +144,14 @@ impl Question for Getport {
 
     ghost shown = { λ port. answer.Port port };
 
-    fn call(&self, alloc: Global, xid: u32, dst: Addr) -> Result<Call, NoMemory> {
-        getport_call(alloc, xid, dst, self.prog, self.vers)
+    fn call(
+        &self,
+        alloc: Global,
+        _machine: &ByteList,
+        xid: u32,
+        _dst: Addr,
+    ) -> Result<Call, NoMemory> {
+        getport_call(alloc, xid, self.prog, self.vers)
     }
 
     fn told(
@@ -173,7 +181,13 @@ impl Question for Whoami {
 
     ghost shown = { λ told. named told };
 
-    fn call(&self, alloc: Global, xid: u32, dst: Addr) -> Result<Call, NoMemory> {
+    fn call(
+        &self,
+        alloc: Global,
+        _machine: &ByteList,
+        xid: u32,
+        dst: Addr,
+    ) -> Result<Call, NoMemory> {
         whoami_call(alloc, xid, dst, self.ip)
     }
 
@@ -205,7 +219,13 @@ impl Question for Getfile {
 
     ghost shown = { λ told. located told };
 
-    fn call(&self, alloc: Global, xid: u32, dst: Addr) -> Result<Call, NoMemory> {
+    fn call(
+        &self,
+        alloc: Global,
+        _machine: &ByteList,
+        xid: u32,
+        dst: Addr,
+    ) -> Result<Call, NoMemory> {
         getfile_call(alloc, xid, dst, &self.client, &self.key)
     }
 
@@ -228,11 +248,19 @@ impl Question for Ask {
 
     ghost shown = { λ answer. answer };
 
-    fn call(&self, alloc: Global, xid: u32, dst: Addr) -> Result<Call, NoMemory> {
+    fn call(
+        &self,
+        alloc: Global,
+        machine: &ByteList,
+        xid: u32,
+        dst: Addr,
+    ) -> Result<Call, NoMemory> {
         match self {
-            Ask::Getport { prog, vers } => getport_call(alloc, xid, dst, *prog, *vers),
+            Ask::Getport { prog, vers } => getport_call(alloc, xid, *prog, *vers),
             Ask::Whoami { ip } => whoami_call(alloc, xid, dst, *ip),
             Ask::Getfile { client, key } => getfile_call(alloc, xid, dst, client, key),
+            Ask::Mnt { path } => mnt_call(alloc, machine, xid, path.as_slice()),
+            Ask::Nfs(args) => nfs_call(alloc, machine, xid, args),
         }
     }
 
@@ -247,6 +275,8 @@ impl Question for Ask {
             Ask::Getport { .. } => port_answer(alloc, results),
             Ask::Whoami { .. } => whoami_answer(alloc, dst, from, results),
             Ask::Getfile { .. } => getfile_answer(alloc, dst, from, results),
+            Ask::Mnt { .. } => given_answer(alloc, results),
+            Ask::Nfs(args) => nfs_answer_in(alloc, args, results),
         }
     }
 }

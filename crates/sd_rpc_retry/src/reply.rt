@@ -6,6 +6,8 @@ ghost use Rattle.sd_rpc_msg.specs.Layout.{message, message_value, outcome_value}
 ghost use Rattle.sd_rpc_msg.specs.Laws.{IsMessage, IsOutcome};
 ghost use Rattle.sd_portmap.specs.Layout as portmap;
 ghost use Rattle.sd_bootparams.specs.Layout as bootparams;
+ghost use Rattle.sd_mount.specs.Layout as mount;
+ghost use Rattle.sd_nfs_msg.specs.Layout as nfs;
 ghost use Rattle.sd_services.specs.RpcCalls.{spelled};
 ghost use Rattle.sd_rpc_retry.specs.Calling.{reply_says, message_says, and_then, verdict_of, shown_as, bootparams_says, comes_from, is_at};
 ghost use Rattle.sd_rpc_retry.specs.Reading.{IsKnown};
@@ -14,6 +16,8 @@ use crate::asking::{Listener, Look};
 use crate::question::Question;
 use crate::request::is_everyone;
 use sd_bootparams::{BpResult, read_bp_result};
+use sd_mount::{MountResult, read_mount_result};
+use sd_nfs_msg::{NfsResult, read_result};
 use sd_outside::{Addr, ByteList, NoMemory, Packet};
 use sd_portmap::{PMAP_PORT, PmapResult, read_pmap_result};
 use sd_rpc_msg::{Message, MsgError, Outcome, read_message};
@@ -61,6 +65,31 @@ fn bp_result_in(alloc: Global, proc_no: u32, bytes: &[u8]) -> Result<Option<BpRe
     ensures of_proc { IfOk result (λ found. IfSome found (λ r. bootparams.result_proc r ≡ proc_no)) }
 {
     known(read_bp_result(alloc, proc_no, bytes))
+}
+
+/// The result of MNTPROC_MNT that the bytes spell.
+pub(crate) fn mnt_result_in(alloc: Global, bytes: &[u8]) -> Result<Option<MountResult>, NoMemory>
+    ensures value { IfOk result (λ found. option_map mount.result_value found ≡ spelled (mount.result_kind 1) bytes.now) }
+    ensures of_proc { IfOk result (λ found. IfSome found (mount.IsResultOf 1)) }
+    ensures fits { IfOk result (λ found. IfSome found mount.ResultFits) }
+{
+    known(read_mount_result(alloc, 1, bytes))
+}
+
+/// The result of a procedure of NFS that the bytes spell.
+pub(crate) fn nfs_result_in(
+    alloc: Global,
+    proc_no: u32,
+    bytes: &[u8],
+) -> Result<Option<NfsResult>, NoMemory>
+    requires most { proc_no ≤ 17 }
+    requires not_root { proc_no ≡ 3 → ⊥ }
+    requires not_writecache { proc_no ≡ 7 → ⊥ }
+    ensures value { IfOk result (λ found. option_map nfs.result_value found ≡ spelled (nfs.result_kind proc_no) bytes.now) }
+    ensures of_proc { IfOk result (λ found. IfSome found (nfs.IsResultOf proc_no)) }
+    ensures fits { IfOk result (λ found. IfSome found nfs.ResultFits) }
+{
+    known(read_result(alloc, proc_no, bytes))
 }
 
 /// The result of a procedure of bootparams that these results spell, in those of PMAPPROC_CALLIT where a portmapper relays it.

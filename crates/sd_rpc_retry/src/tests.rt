@@ -1,8 +1,10 @@
 //! Calls over a link in memory, against rows worked by hand.
-ghost use Rattle.std.specs.Prelude.{◌≡◌, [], IfOk};
+ghost use Rattle.std.specs.Prelude.{◌≡◌, ◌≤◌, [], length, IfOk};
 ghost use Rattle.sd_rpc_retry.specs.Calling.{AskFits};
 
 mod asking;
+mod file_rows;
+mod files;
 mod rows;
 
 use super::*;
@@ -11,7 +13,8 @@ use rows::{
     Row, WHOAMI, WHOAMI_RELAYED,
 };
 use sd_link::{MemLink, PacketTimes};
-use sd_outside::{Addr, ByteList, Packet};
+use sd_nfs_msg::{Fattr, NfsResult};
+use sd_outside::{Addr, ByteList, FHandle, Packet};
 use std::alloc::Global;
 use std::process::Abort;
 use std::test::Fail;
@@ -51,6 +54,34 @@ fn text_of(bytes: &ByteList) -> Result<&str, Fail> {
     Ok(str::from_utf8(bytes.as_slice())?)
 }
 
+/// The first and the last byte of a handle.
+fn handle_text(alloc: Global, file: &FHandle) -> Result<String, Fail> {
+    let [first, .., last] = file.0;
+    Ok(format!(in alloc; "{first:x}..{last:x}")?)
+}
+
+/// The kind, the size and the last word of attributes.
+fn attr_text(alloc: Global, attr: &Fattr) -> Result<String, Fail> {
+    Ok(format!(in alloc; "{}/{}/{}", attr.kind, attr.size, attr.ctime_u)?)
+}
+
+fn nfs_text(alloc: Global, done: &NfsResult) -> Result<String, Fail> {
+    Ok(match done {
+        NfsResult::Getattr { attr } => format!(in alloc; "getattr {}", attr_text(alloc, attr)?)?,
+        NfsResult::Lookup { file, attr } => {
+            let file = handle_text(alloc, file)?;
+            format!(in alloc; "lookup {file} {}", attr_text(alloc, attr)?)?
+        }
+        NfsResult::Readlink { path } => format!(in alloc; "readlink {}", text_of(path)?)?,
+        NfsResult::Read { attr, bytes } => {
+            let bytes = text_of(bytes)?;
+            format!(in alloc; "read {} {bytes}", attr_text(alloc, attr)?)?
+        }
+        NfsResult::Remove => format!(in alloc; "remove")?,
+        _ => format!(in alloc; "another")?,
+    })
+}
+
 /// What came of a call, its sends and its last tick.
 fn shown(alloc: Global, answer: &Result<Answer, CallError>, tally: Tally) -> Result<String, Fail> {
     let answer = match answer {
@@ -79,6 +110,9 @@ fn shown(alloc: Global, answer: &Result<Answer, CallError>, tally: Tally) -> Res
             let path = text_of(path)?;
             format!(in alloc; "getfile {from:x} {server} {ip:x} {path}")?
         }
+        Ok(Answer::Given(file)) => format!(in alloc; "given {}", handle_text(alloc, file)?)?,
+        Ok(Answer::Nfs(done)) => nfs_text(alloc, done)?,
+        Ok(Answer::Refused { status }) => format!(in alloc; "refused {status}")?,
         Err(why) => format!(in alloc; "{why:?}")?,
     };
     Ok(format!(in alloc; "{answer} {} {}", tally.sends, tally.last)?)
@@ -162,20 +196,30 @@ fn what_is_sent_is_spelled(rt: HostRuntime) -> Result<(), Fail> {
     };
     let whoami = Ask::Whoami { ip: CLIENT.ip };
     let getfile = Ask::Getfile { client, key };
-    let rows = [
-        (PORTMAPPER, &getport, GETPORT),
-        (EVERYONE, &whoami, WHOAMI_RELAYED),
-        (BOOTPARAMS, &whoami, WHOAMI),
-        (PORTMAPPER, &getfile, GETFILE_RELAYED),
-    ];
-    for (to, ask, items) in rows {
-        match caller.request(alloc, to, ask)? {
-            Packet::Frame(_) => assert!(rt; false),
-            Packet::Udp { src, dst, body } => {
-                assert_eq!(rt; src, CLIENT);
-                assert_eq!(rt; dst, to);
-                assert_eq!(rt; body.as_slice(), bytes_of(alloc, items)?.as_slice());
-            }
+    check_sent(&rt, alloc, &caller, PORTMAPPER, &getport, GETPORT)?;
+    check_sent(&rt, alloc, &caller, EVERYONE, &whoami, WHOAMI_RELAYED)?;
+    check_sent(&rt, alloc, &caller, BOOTPARAMS, &whoami, WHOAMI)?;
+    check_sent(&rt, alloc, &caller, PORTMAPPER, &getfile, GETFILE_RELAYED)
+}
+
+/// What is sent for a question.
+fn check_sent<Q: Question>(
+    rt: &impl Abort,
+    alloc: Global,
+    caller: &Caller,
+    to: Addr,
+    question: &Q,
+    items: &str,
+) -> Result<(), Fail>
+    requires machine { length caller.now.machine ≤ 255 }
+    requires fits { AskFits (Q.ask question.now) }
+{
+    match caller.request(alloc, to, question)? {
+        Packet::Frame(_) => assert!(rt; false),
+        Packet::Udp { src, dst, body } => {
+            assert_eq!(rt; src, CLIENT);
+            assert_eq!(rt; dst, to);
+            assert_eq!(rt; body.as_slice(), bytes_of(alloc, items)?.as_slice());
         }
     }
     Ok(())

@@ -47,53 +47,49 @@ struct Row {
     /// The body of the datagrams that come from the portmapper at tick 5, and how many.
     body: &'static [u8],
     count: u32,
-    /// Which call of the link fails, if one does.
-    fail: &'static [u64],
     answer: &'static [u8],
 }
 
-const ROWS: [Row; 6] = [
+const ROWS: [Row; 5] = [
     Row {
         body: b"\0\0\0\x03\0\0\0\x01\0\0\0\0\0\0\0\0\0\0\0\0\0\0\0\0\0\0\x02\xbc",
         count: 1,
-        fail: &[],
         answer: b"boot unbuilt mnt program 616263\n",
     },
     // port 0, PROG_UNAVAIL, and AUTH_TOOWEAK
     Row {
         body: b"\0\0\0\x03\0\0\0\x01\0\0\0\0\0\0\0\0\0\0\0\0\0\0\0\0\0\0\0\0",
         count: 1,
-        fail: &[],
         answer: b"boot noport getport\n",
     },
     Row {
         body: b"\0\0\0\x03\0\0\0\x01\0\0\0\0\0\0\0\0\0\0\0\0\0\0\0\x01",
         count: 1,
-        fail: &[],
         answer: b"boot denied getport 1\n",
     },
     Row {
         body: b"\0\0\0\x03\0\0\0\x01\0\0\0\x01\0\0\0\x01\0\0\0\x05",
         count: 1,
-        fail: &[],
         answer: b"boot denied getport 15\n",
     },
     Row {
         body: b"",
         count: 4096,
-        fail: &[],
         answer: b"boot flood getport\n",
-    },
-    // sends of a boot are calls 0, 2, 4, 5, 7 and 9, the fifth of them that of GETFILE
-    Row {
-        body: b"",
-        count: 0,
-        fail: &[7],
-        answer: b"boot linkfault\n",
     },
 ];
 
-fn boots(rt: &impl Abort, alloc: Global, row: &Row) -> Result<(), Fail> {
+/// The calls of a boot whose GETPORT is answered: sends of a request, the ACK or a call are 0, 2, 4, 5, 7 and 9, receives all others.
+const CALLS: u64 = 11;
+
+/// A boot in which these calls of the link fail.
+fn boots(
+    rt: &impl Abort,
+    alloc: Global,
+    row: &Row,
+    fail: &[u64],
+    answer: &[u8],
+) -> Result<(), Fail> {
     let mut text = ByteList::from_slice(alloc, HEAD)?;
     text.push_slice(b"boot\n")?;
     let script = read_script(alloc, text.as_slice())?;
@@ -110,18 +106,27 @@ fn boots(rt: &impl Abort, alloc: Global, row: &Row) -> Result<(), Fail> {
             },
         ))?;
     }
-    let mut link = MemLink::new(alloc, inbox, row.fail)?;
+    let mut link = MemLink::new(alloc, inbox, fail)?;
     let mut sink = CalmSink::new(alloc, 1024)?;
     let done = session(alloc, &mut link, client, &script.commands, &mut sink);
     assert_eq!(rt; done, Ok(()));
-    assert_eq!(rt; sink.bytes(), Some(row.answer));
+    assert_eq!(rt; sink.bytes(), Some(answer));
     Ok(())
 }
 
 #[test]
 fn boots_over_memory(rt: HostRuntime) -> Result<(), Fail> {
     for row in &ROWS {
-        boots(&rt, rt.alloc(), row)?;
+        boots(&rt, rt.alloc(), row, &[], row.answer)?;
     }
     Ok(())
+}
+
+#[test]
+fn each_call_fails_in_turn(rt: HostRuntime) -> Result<(), Fail> {
+    for call in 0..CALLS {
+        boots(&rt, rt.alloc(), &ROWS[0], &[call], b"boot linkfault\n")?;
+    }
+    // the boot makes no call more
+    boots(&rt, rt.alloc(), &ROWS[0], &[CALLS], ROWS[0].answer)
 }

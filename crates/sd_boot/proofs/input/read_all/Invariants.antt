@@ -1,6 +1,6 @@
 use Rattle.std.proofs.Common.{◌≡◌, ◌+◌, ◌-◌, length}
 use Rattle.sd_script.specs.Limits.{input_limit}
-use Rattle.sd_boot.specs.Input.{Gave}
+use Rattle.sd_outside.specs.Streams.{Gave}
 use Rattle.sd_boot.proofs.input.read_all.Given as goal
 
 abbrev pub invariant-reading : goal.invariant-reading

@@ -11,4 +11,4 @@ pub returns-in-Show-clause-refused : goal.returns-in-Show-clause-refused
 returns-in-Show-clause-refused c =
     let fits : c.args.end ≤ input_limit = omega (arith, c.if-end-gt-INPUT_LIMIT.false) in
     subst (λ (d : Direction). IfErr c.shown.result (IsLineRefused d c.args.seen.now c.args.line.now c.args.end)) (sym c.in-Show.is)
-    (refused_within Show c.args.seen.now c.args.line.now c.body_of.result.now c.args.end c.shown.result fits c.body_of.ensures c.shown.ensures.refused)
+    (refused_within Show c.args.seen.now c.args.line.now c.without_feed.result.now c.args.end c.shown.result fits c.without_feed.ensures c.shown.ensures.refused)

@@ -1,7 +1,7 @@
 use Rattle.std.proofs.Common.{Result, Ok, Err, subst}
 use Rattle.std.specs.Prelude.{OnOk, OnErr}
 use Rattle.sd_link.specs.Steps.{History}
-use Rattle.sd_claims.specs.Headline.{Plays, PlaysFront}
+use Rattle.sd_claims.specs.Headline.{Plays, PlaysPrefix}
 use Rattle.sd_streams.specs.Writing.{GainsSome}
 use Rattle.sd_boot.specs.Play.{script_of}
 use Rattle.sd_boot.proofs.Composing.{on_err, unplayed}
@@ -17,4 +17,4 @@ returns-clause-done g c =
 
 pub returns-clause-cut : goal.returns-clause-cut
 returns-clause-cut g c =
-    subst (λ (h : History). OnErr c.commanded.result (GainsSome (g.K.Sink.written c.args.sink.now) (g.K.Sink.written c.commanded.new.sink) (PlaysFront (script_of h c.args.commands.now)))) c.in_ok-link.ensures.told c.commanded.ensures.cut
+    subst (λ (h : History). OnErr c.commanded.result (GainsSome (g.K.Sink.written c.args.sink.now) (g.K.Sink.written c.commanded.new.sink) (PlaysPrefix (script_of h c.args.commands.now)))) c.in_ok-link.ensures.told c.commanded.ensures.cut

@@ -19,8 +19,8 @@ returns-in-Some-clause-refusal g c = λ words status.
     refused_by Replay c.in-Some.program c.args.words.now c.perform.result (g.S.Source.left c.args.source.now) (g.K.Sink.written c.args.sink.now) (g.K.Sink.written c.perform.new.sink) words c.in-Some.ensures c.perform.ensures.told
     (ap (λ (s : Status). s.0) (sym c.status_of.ensures) ∙ status)
 
-pub returns-in-Some-clause-front : goal.returns-in-Some-clause-front
-returns-in-Some-clause-front g c = λ words status.
+pub returns-in-Some-clause-prefix : goal.returns-in-Some-clause-prefix
+returns-in-Some-clause-prefix g c = λ words status.
     cut_by Replay c.in-Some.program c.args.words.now c.perform.result (g.S.Source.left c.args.source.now) (g.K.Sink.written c.args.sink.now) (g.K.Sink.written c.perform.new.sink) words c.in-Some.ensures c.perform.ensures.told
     (subst (λ (s : Status). 4 ≤ s.0) c.status_of.ensures status)
 
@@ -34,8 +34,8 @@ returns-in-Some-clause-show_refusal g c = λ words status.
     refused_by Show c.in-Some.program c.args.words.now c.perform.result (g.S.Source.left c.args.source.now) (g.K.Sink.written c.args.sink.now) (g.K.Sink.written c.perform.new.sink) words c.in-Some.ensures c.perform.ensures.told
     (ap (λ (s : Status). s.0) (sym c.status_of.ensures) ∙ status)
 
-pub returns-in-Some-clause-show_front : goal.returns-in-Some-clause-show_front
-returns-in-Some-clause-show_front g c = λ words status.
+pub returns-in-Some-clause-show_prefix : goal.returns-in-Some-clause-show_prefix
+returns-in-Some-clause-show_prefix g c = λ words status.
     cut_by Show c.in-Some.program c.args.words.now c.perform.result (g.S.Source.left c.args.source.now) (g.K.Sink.written c.args.sink.now) (g.K.Sink.written c.perform.new.sink) words c.in-Some.ensures c.perform.ensures.told
     (subst (λ (s : Status). 4 ≤ s.0) c.status_of.ensures status)
 
@@ -49,8 +49,8 @@ returns-in-Some-clause-pack_refusal g c = λ words status.
     refused_by Pack c.in-Some.program c.args.words.now c.perform.result (g.S.Source.left c.args.source.now) (g.K.Sink.written c.args.sink.now) (g.K.Sink.written c.perform.new.sink) words c.in-Some.ensures c.perform.ensures.told
     (ap (λ (s : Status). s.0) (sym c.status_of.ensures) ∙ status)
 
-pub returns-in-Some-clause-pack_front : goal.returns-in-Some-clause-pack_front
-returns-in-Some-clause-pack_front g c = λ words status.
+pub returns-in-Some-clause-pack_prefix : goal.returns-in-Some-clause-pack_prefix
+returns-in-Some-clause-pack_prefix g c = λ words status.
     cut_by Pack c.in-Some.program c.args.words.now c.perform.result (g.S.Source.left c.args.source.now) (g.K.Sink.written c.args.sink.now) (g.K.Sink.written c.perform.new.sink) words c.in-Some.ensures c.perform.ensures.told
     (subst (λ (s : Status). 4 ≤ s.0) c.status_of.ensures status)
 
@@ -64,8 +64,8 @@ returns-in-Some-clause-image_unmade g c = λ words status.
     refused_by ImageMake c.in-Some.program c.args.words.now c.perform.result (g.S.Source.left c.args.source.now) (g.K.Sink.written c.args.sink.now) (g.K.Sink.written c.perform.new.sink) words c.in-Some.ensures c.perform.ensures.told
     (ap (λ (s : Status). s.0) (sym c.status_of.ensures) ∙ status)
 
-pub returns-in-Some-clause-image_front : goal.returns-in-Some-clause-image_front
-returns-in-Some-clause-image_front g c = λ words status.
+pub returns-in-Some-clause-image_prefix : goal.returns-in-Some-clause-image_prefix
+returns-in-Some-clause-image_prefix g c = λ words status.
     cut_by ImageMake c.in-Some.program c.args.words.now c.perform.result (g.S.Source.left c.args.source.now) (g.K.Sink.written c.args.sink.now) (g.K.Sink.written c.perform.new.sink) words c.in-Some.ensures c.perform.ensures.told
     (subst (λ (s : Status). 4 ≤ s.0) c.status_of.ensures status)
 
@@ -74,8 +74,8 @@ returns-in-Some-clause-shown_image g c = λ words status.
     done_by ImageShow c.in-Some.program c.args.words.now c.perform.result (g.S.Source.left c.args.source.now) (g.K.Sink.written c.args.sink.now) (g.K.Sink.written c.perform.new.sink) words c.in-Some.ensures c.perform.ensures.told
     (ap (λ (s : Status). s.0) (sym c.status_of.ensures) ∙ status)
 
-pub returns-in-Some-clause-shown_image_front : goal.returns-in-Some-clause-shown_image_front
-returns-in-Some-clause-shown_image_front g c = λ words status.
+pub returns-in-Some-clause-shown_image_prefix : goal.returns-in-Some-clause-shown_image_prefix
+returns-in-Some-clause-shown_image_prefix g c = λ words status.
     cut_by ImageShow c.in-Some.program c.args.words.now c.perform.result (g.S.Source.left c.args.source.now) (g.K.Sink.written c.args.sink.now) (g.K.Sink.written c.perform.new.sink) words c.in-Some.ensures c.perform.ensures.told
     (subst (λ (s : Status). 4 ≤ s.0) c.status_of.ensures status)
 
@@ -84,20 +84,20 @@ returns-in-Some-clause-image_refusal g c = λ words status.
     no_image_by ImageShow c.in-Some.program c.args.words.now c.perform.result (g.S.Source.left c.args.source.now) (g.K.Sink.written c.args.sink.now) (g.K.Sink.written c.perform.new.sink) words c.in-Some.ensures c.perform.ensures.told
     (ap (λ (s : Status). s.0) (sym c.status_of.ensures) ∙ status)
 
-pub returns-in-None-clause-front : goal.returns-in-None-clause-front
-returns-in-None-clause-front g c = λ words status. absurd (c.in-None.ensures Replay words)
+pub returns-in-None-clause-prefix : goal.returns-in-None-clause-prefix
+returns-in-None-clause-prefix g c = λ words status. absurd (c.in-None.ensures Replay words)
 
-pub returns-in-None-clause-show_front : goal.returns-in-None-clause-show_front
-returns-in-None-clause-show_front g c = λ words status. absurd (c.in-None.ensures Show words)
+pub returns-in-None-clause-show_prefix : goal.returns-in-None-clause-show_prefix
+returns-in-None-clause-show_prefix g c = λ words status. absurd (c.in-None.ensures Show words)
 
-pub returns-in-None-clause-pack_front : goal.returns-in-None-clause-pack_front
-returns-in-None-clause-pack_front g c = λ words status. absurd (c.in-None.ensures Pack words)
+pub returns-in-None-clause-pack_prefix : goal.returns-in-None-clause-pack_prefix
+returns-in-None-clause-pack_prefix g c = λ words status. absurd (c.in-None.ensures Pack words)
 
-pub returns-in-None-clause-image_front : goal.returns-in-None-clause-image_front
-returns-in-None-clause-image_front g c = λ words status. absurd (c.in-None.ensures ImageMake words)
+pub returns-in-None-clause-image_prefix : goal.returns-in-None-clause-image_prefix
+returns-in-None-clause-image_prefix g c = λ words status. absurd (c.in-None.ensures ImageMake words)
 
-pub returns-in-None-clause-shown_image_front : goal.returns-in-None-clause-shown_image_front
-returns-in-None-clause-shown_image_front g c = λ words status. absurd (c.in-None.ensures ImageShow words)
+pub returns-in-None-clause-shown_image_prefix : goal.returns-in-None-clause-shown_image_prefix
+returns-in-None-clause-shown_image_prefix g c = λ words status. absurd (c.in-None.ensures ImageShow words)
 
 pub returns-in-None-clause-known : goal.returns-in-None-clause-known
 returns-in-None-clause-known g c = λ row status. no_row c.args.words.now c.in-None.ensures row

@@ -10,7 +10,7 @@ use Rattle.sd_rpc_retry.proofs.Rising.{rose_one_more, counts_on}
 use Rattle.sd_rpc_retry.proofs.Failing.{fails_then, fails_received}
 use Rattle.sd_boot_chain.specs.Pause.{Passes}
 use Rattle.sd_boot_chain.specs.declared.pause.Pause.TheVariants.{Over, Fault}
-use Rattle.sd_boot_chain.proofs.Dropping.{Gets, gets_error, gets_packet}
+use Rattle.sd_boot_chain.proofs.Dropping.{Drops, gets_error, drops_packet}
 use Rattle.sd_boot_chain.proofs.Pausing.{passes_over, passes_fault}
 use Rattle.sd_boot_chain.proofs.pause.drop_until.Goals as goal
 
@@ -18,7 +18,7 @@ pub returns-in-Ok-None-clause-told : goal.returns-in-Ok-None-clause-told
 returns-in-Ok-None-clause-told g c =
     let told : Moves (g.L.Link.told c.loop-count.link) (g.L.Link.told c.recv.new.self) (Receives c.args.until (Ok None)) =
     subst (λ (o : Option Packet). Moves (g.L.Link.told c.loop-count.link) (g.L.Link.told c.recv.new.self) (Receives c.args.until (Ok o))) c.in-Ok-None.field-0-is c.in-Ok-None.ensures.told in
-    moves_then _ _ _ (Gets c.args.until c.loop-count.count) (Receives c.args.until (Ok None)) (Passes c.args.until Over)
+    moves_then _ _ _ (Drops c.args.until c.loop-count.count) (Receives c.args.until (Ok None)) (Passes c.args.until Over)
     (λ a b xs ys goes q r. passes_over c.args.until c.loop-count.count a b xs ys goes q c.loop-count-test.true r)
     c.loop-count.invariant.moves told
 
@@ -27,7 +27,7 @@ returns-in-Ok-None-clause-goes g c = moves_weaker _ _ (Passes c.args.until Over)
 
 pub returns-in-Err-Failed-clause-told : goal.returns-in-Err-Failed-clause-told
 returns-in-Err-Failed-clause-told g c =
-    moves_then _ _ _ (Gets c.args.until c.loop-count.count) (Receives c.args.until (Err Failed)) (Passes c.args.until Fault)
+    moves_then _ _ _ (Drops c.args.until c.loop-count.count) (Receives c.args.until (Err Failed)) (Passes c.args.until Fault)
     (λ a b xs ys goes q r. passes_fault c.args.until c.loop-count.count a b xs ys goes q c.loop-count-test.true r)
     c.loop-count.invariant.moves
     (subst (λ (why : LinkError). Moves (g.L.Link.told c.loop-count.link) (g.L.Link.told c.recv.new.self) (Receives c.args.until (Err why))) c.in-Err-Failed.field-0-is c.in-Err-Failed.ensures.told)
@@ -37,8 +37,8 @@ returns-in-Err-Failed-clause-goes g c = moves_weaker _ _ (Passes c.args.until Fa
 
 pub returns-in-Err-NoMemory-clause-goes : goal.returns-in-Err-NoMemory-clause-goes
 returns-in-Err-NoMemory-clause-goes g c =
-    moves_then _ _ _ (Gets c.args.until c.loop-count.count) _ (StaysBefore c.args.until)
-    (λ a b xs ys goes q r. (gets_error c.args.until c.loop-count.count a b xs ys goes q _ r).ticks)
+    moves_then _ _ _ (Drops c.args.until c.loop-count.count) _ (StaysBefore c.args.until)
+    (λ a b xs ys goes q r. (gets_error c.args.until c.loop-count.count a b xs ys goes q.gets _ r).ticks)
     c.loop-count.invariant.moves c.in-Err-NoMemory.ensures.told
 
 pub loop-count-preserved : goal.loop-count-preserved
@@ -47,8 +47,8 @@ loop-count-preserved g c = record {
       let packet = c.in-Ok-Some.packet in
       let told : Moves (g.L.Link.told c.loop-count.link) (g.L.Link.told c.recv.new.self) (Receives c.args.until (Ok (Some packet))) =
       subst (λ (o : Option Packet). Moves (g.L.Link.told c.loop-count.link) (g.L.Link.told c.recv.new.self) (Receives c.args.until (Ok o))) c.in-Ok-Some.field-0-is c.in-Ok-Some.ensures.told in
-      moves_then _ _ _ (Gets c.args.until c.loop-count.count) (Receives c.args.until (Ok (Some packet))) (Gets c.args.until (c.loop-count.count + 1))
-      (λ a b xs ys goes q r. gets_packet c.args.until c.loop-count.count a b xs ys goes q packet r)
+      moves_then _ _ _ (Drops c.args.until c.loop-count.count) (Receives c.args.until (Ok (Some packet))) (Drops c.args.until (c.loop-count.count + 1))
+      (λ a b xs ys goes q r. drops_packet c.args.until c.loop-count.count a b xs ys goes q packet r)
       c.loop-count.invariant.moves told;
   fails =
       let told = subst (λ (o : Option Packet). Moves (g.L.Link.told c.loop-count.link) (g.L.Link.told c.recv.new.self) (Receives c.args.until (Ok o))) c.in-Ok-Some.field-0-is c.in-Ok-Some.ensures.told in

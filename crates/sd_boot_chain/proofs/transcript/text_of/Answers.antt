@@ -1,6 +1,6 @@
 use Rattle.std.proofs.Common.{◌≡◌, ℕ, ◌*◌, List, [], ◌++◌, Option, sym, ◌∙◌, ap, subst}
 use Rattle.std.proofs.lemmas.List.{append-nil}
-use Rattle.sd_link.specs.Lawful.{IsFrontOf}
+use Rattle.sd_outside.specs.Streams.{IsPrefixOf}
 use Rattle.sd_claims.specs.AnyLink.{IsMet, Needs, FaultIsCounted}
 use Rattle.sd_link.specs.Steps.{History}
 use Rattle.sd_link.specs.Link.{Moves, Drains}
@@ -44,17 +44,17 @@ returns-clause-said g c =
       is = c.in_ok-write_answer.ensures.ok ∙ ap (λ (l : List ℕ). l ++ answer_line answer) drains.2;
     }
 
-drained_on : (old mid new text_old text_new : List ℕ) → mid ≡ old → Drains mid new text_old text_new → IsFrontOf old new
+drained_on : (old mid new text_old text_new : List ℕ) → mid ≡ old → Drains mid new text_old text_new → IsPrefixOf old new
 drained_on old mid new text_old text_new same d = (d.0, ap (λ (l : List ℕ). l ++ d.0) (sym same) ∙ sym d.1)
 
-pub returns-clause-front : goal.returns-clause-front
-returns-clause-front g c = drained_on _ _ _ _ _ c.step.ensures.drained c.in_ok-drain.ensures.text
+pub returns-clause-prefix : goal.returns-clause-prefix
+returns-clause-prefix g c = drained_on _ _ _ _ _ c.step.ensures.drained c.in_ok-drain.ensures.text
 
-pub returns-in_err-write_answer-clause-front : goal.returns-in_err-write_answer-clause-front
-returns-in_err-write_answer-clause-front g c = drained_on _ _ _ _ _ c.step.ensures.drained c.in_ok-drain.ensures.text
+pub returns-in_err-write_answer-clause-prefix : goal.returns-in_err-write_answer-clause-prefix
+returns-in_err-write_answer-clause-prefix g c = drained_on _ _ _ _ _ c.step.ensures.drained c.in_ok-drain.ensures.text
 
-pub returns-in_err-drain-clause-front : goal.returns-in_err-drain-clause-front
-returns-in_err-drain-clause-front g c = ([], append-nil (g.L.Link.drained c.args.link.now) ∙ sym (c.in_err-drain.ensures.err ∙ c.step.ensures.drained))
+pub returns-in_err-drain-clause-prefix : goal.returns-in_err-drain-clause-prefix
+returns-in_err-drain-clause-prefix g c = ([], append-nil (g.L.Link.drained c.args.link.now) ∙ sym (c.in_err-drain.ensures.err ∙ c.step.ensures.drained))
 
-pub returns-in_err-answer-clause-front : goal.returns-in_err-answer-clause-front
-returns-in_err-answer-clause-front g c = ([], append-nil (g.L.Link.drained c.args.link.now) ∙ sym c.step.ensures.drained)
+pub returns-in_err-answer-clause-prefix : goal.returns-in_err-answer-clause-prefix
+returns-in_err-answer-clause-prefix g c = ([], append-nil (g.L.Link.drained c.args.link.now) ∙ sym c.step.ensures.drained)

@@ -4,7 +4,7 @@ use Rattle.sd_config.specs.declared.stage.Stage.TheVariants as stage
 use Rattle.sd_link.proofs.Histories.{moves_weaker}
 use Rattle.sd_config.specs.declared.command.Command.TheVariants.{Boot}
 use Rattle.sd_config.specs.declared.told.Told.TheVariants.{BootTimeout, BootFlood, BootLinkFault}
-use Rattle.sd_claims.specs.Causes.{boot_timeout_rarp, boot_flood_rarp, boot_linkfault, failed_at_rarp}
+use Rattle.sd_claims.specs.Causes.{boot_timeout_rarp, boot_flood_rarp, boot_linkfault_rarp}
 use Rattle.sd_rpc_retry.specs.Lasting.{Fails, most_asking_ticks}
 use Rattle.sd_rpc_retry.specs.Sending.{asked_fails}
 use Rattle.sd_rpc_retry.proofs.Failing.{fails_then}
@@ -12,7 +12,7 @@ use Rattle.sd_boot_chain.proofs.Needing.{boot_later}
 use Rattle.sd_rpc_retry.proofs.Lasting.{lasts_then}
 use Rattle.sd_boot_chain.specs.Durations.{most_ticks, most_boot_ticks}
 use Rattle.sd_boot_chain.proofs.Addressing.{AsksAddress, address_vain, address_full, address_broken}
-use Rattle.sd_boot_chain.proofs.Booting.{IsDoneSo, done_briefly, fails_ok, boot_answer, boot_unheard, unmoved}
+use Rattle.sd_boot_chain.proofs.Booting.{IsDoneSo, done_briefly, fails_ok, boot_answer, boot_unheard}
 use Rattle.sd_boot_chain.proofs.client.Client.boot.Goals as goal
 
 pub returns-in-Answer-clause-lasts : goal.returns-in-Answer-clause-lasts
@@ -37,7 +37,7 @@ returns-in-Timeout-clause-caused g c =
     done_briefly _ _ client Boot (BootTimeout stage.Rarp) client most_asking_ticks (omega arith) c.learn_address.ensures.lasts
     (subst (λ e. Fails (asked_fails (Ok e)) (g.L.Link.told c.args.link.now) (g.L.Link.told c.learn_address.new.link)) c.in-Timeout.is c.in_ok-asked.ensures.fails)
     (moves_weaker _ _ _ (IsDoneSo client Boot (BootTimeout stage.Rarp) client)
-    (λ h part k. boot_unheard client (BootTimeout stage.Rarp) h part (λ is_for n. (boot_timeout_rarp part (address_vain client.config h part is_for k), unmoved n)))
+    (λ h part k. boot_unheard client (BootTimeout stage.Rarp) h part (λ is_for n. boot_timeout_rarp part (address_vain client.config h part is_for k)))
     heard)
 
 pub returns-in-Flood-clause-caused : goal.returns-in-Flood-clause-caused
@@ -47,7 +47,7 @@ returns-in-Flood-clause-caused g c =
     done_briefly _ _ client Boot (BootFlood stage.Rarp) client most_asking_ticks (omega arith) c.learn_address.ensures.lasts
     (subst (λ e. Fails (asked_fails (Ok e)) (g.L.Link.told c.args.link.now) (g.L.Link.told c.learn_address.new.link)) c.in-Flood.is c.in_ok-asked.ensures.fails)
     (moves_weaker _ _ _ (IsDoneSo client Boot (BootFlood stage.Rarp) client)
-    (λ h part k. boot_unheard client (BootFlood stage.Rarp) h part (λ is_for n. (boot_flood_rarp part (address_full client.config h part is_for k), unmoved n)))
+    (λ h part k. boot_unheard client (BootFlood stage.Rarp) h part (λ is_for n. boot_flood_rarp part (address_full client.config h part is_for k)))
     heard)
 
 pub returns-in-Fault-clause-caused : goal.returns-in-Fault-clause-caused
@@ -58,7 +58,7 @@ returns-in-Fault-clause-caused g c =
     (subst (λ e. Fails (asked_fails (Ok e)) (g.L.Link.told c.args.link.now) (g.L.Link.told c.learn_address.new.link)) c.in-Fault.is c.in_ok-asked.ensures.fails)
     (moves_weaker _ _ _ (IsDoneSo client Boot BootLinkFault client)
     (λ h part k. boot_unheard client BootLinkFault h part
-    (λ is_for n. let failed = failed_at_rarp part (address_broken client.config h part is_for k) in (boot_linkfault stage.Rarp part failed, (stage.Rarp, failed, unmoved n))))
+    (λ is_for n. boot_linkfault_rarp part (address_broken client.config h part is_for k)))
     heard)
 
 pub returns-in-Answer-clause-needs : goal.returns-in-Answer-clause-needs

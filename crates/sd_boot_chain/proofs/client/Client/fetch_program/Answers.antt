@@ -45,7 +45,7 @@ returns-in-Refused-clause-caused g c =
     let old = g.L.Link.told c.args.link.now in
     let new = g.L.Link.told c.fetch.new.link in
     let code = c.in-Refused.code in
-    fetch_refused c.args.self.now c.count_boot.new.self (shows_learned c.args.learned) code old new c.count_boot.ensures.counted c.count_boot.ensures.xid
+    fetch_refused c.args.self.now c.count_boot.new.self (shows_learned c.args.learned) old new c.count_boot.ensures.counted c.count_boot.ensures.xid code
     (subst (λ f. Moves old new (CameOf f (came.Refused code))) c.in_ok-task.ensures.task (subst (λ e. Moves old new (CameOf (fetch_of c.in_ok-task.task) e)) c.in-Refused.is c.in_ok-program.ensures.told))
 
 pub returns-in-TooLarge-clause-caused : goal.returns-in-TooLarge-clause-caused
@@ -53,7 +53,7 @@ returns-in-TooLarge-clause-caused g c =
     let old = g.L.Link.told c.args.link.now in
     let new = g.L.Link.told c.fetch.new.link in
     let size = c.in-TooLarge.size in
-    fetch_large c.args.self.now c.count_boot.new.self (shows_learned c.args.learned) size old new c.count_boot.ensures.counted c.count_boot.ensures.xid
+    fetch_large c.args.self.now c.count_boot.new.self (shows_learned c.args.learned) old new c.count_boot.ensures.counted c.count_boot.ensures.xid size
     (subst (λ f. Moves old new (CameOf f (came.TooLarge size))) c.in_ok-task.ensures.task (subst (λ e. Moves old new (CameOf (fetch_of c.in_ok-task.task) e)) c.in-TooLarge.is c.in_ok-program.ensures.told))
 
 pub returns-in-File-clause-fails : goal.returns-in-File-clause-fails
