@@ -1,0 +1,12 @@
+pub mod Walk
+pub mod Fresh
+pub mod Lists
+pub mod Served
+pub mod Trust
+pub mod Mounting
+pub mod Found
+pub mod Causes
+pub mod Went
+pub mod WalkCalls
+pub mod LoadCalls
+pub mod Walking

@@ -1,0 +1,6 @@
+-- What stands in a list.
+use Rattle.std.specs.Prelude.{◌≡◌, ◌⊎◌, List, [], ◌∷◌}
+
+abbrev pub IsIn : {A : Type 0} → List A → A → Type 0
+IsIn [] x = ⊥
+IsIn (y ∷ ys) x = (y ≡ x) ⊎ IsIn ys x
