@@ -3,7 +3,7 @@ use Rattle.std.proofs.Common.{◌≡◌, ℕ, List, Option, Some, None, Result, 
 use Rattle.std.specs.Prelude.{◌⊎◌, OnOk, OnErr, IfOk, IfSome, IsErrOf}
 use Rattle.sd_outside.specs.Causes.{Rose}
 use Rattle.sd_outside.specs.Streams.{Gains}
-use Rattle.sd_streams.specs.Writing.{GainsFront, GainsSome, Writes}
+use Rattle.sd_streams.specs.Writing.{GainsPrefix, GainsSome, Writes}
 use Rattle.sd_text.specs.Texts.{Text}
 use Rattle.sd_view.specs.declared.lines.Line.{Line}
 use Rattle.sd_view.specs.declared.status.Ended.{Ended}
@@ -16,14 +16,14 @@ use Rattle.sd_view.specs.Views.{IsDrawn, IsRefusal, refusal_line, Draws, status_
 use Rattle.sd_view.proofs.OneRun.{never_both}
 
 -- the sink failed on the way
-pub not_written : (view : View) (text out : Text) (old new : Option (List ℕ)) (stop : Stop) → IsDrawn view text out ⊎ IsRefusal text out → GainsFront old new out → (stop ≡ SourceFault → ⊥)
+pub not_written : (view : View) (text out : Text) (old new : Option (List ℕ)) (stop : Stop) → IsDrawn view text out ⊎ IsRefusal text out → GainsPrefix old new out → (stop ≡ SourceFault → ⊥)
     → GainsSome old new (Draws view (Err stop) text)
 not_written view text out old new SourceFault is f never = absurd (never refl)
-not_written view text out old new SinkFault is f never = (f.0, f.2, inr (record { full = out; is = is; front = f.1 }))
-not_written view text out old new NoMemory is f never = (f.0, f.2, inr (record { full = out; is = is; front = f.1 }))
+not_written view text out old new SinkFault is f never = (f.0, f.2, inr (record { full = out; is = is; prefix = f.1 }))
+not_written view text out old new NoMemory is f never = (f.0, f.2, inr (record { full = out; is = is; prefix = f.1 }))
 
 -- the refusal of a text
-pub refused : (view : View) (text : Text) (n : ℕ) (old new : Option (List ℕ)) (r : Result Ended Stop) → IsFirstOutside text n → OnOk r (Gains old new (refusal_line n)) → OnErr r (GainsFront old new (refusal_line n))
+pub refused : (view : View) (text : Text) (n : ℕ) (old new : Option (List ℕ)) (r : Result Ended Stop) → IsFirstOutside text n → OnOk r (Gains old new (refusal_line n)) → OnErr r (GainsPrefix old new (refusal_line n))
     → IfOk r (λ ended. ended ≡ Refused) → (IsErrOf r SourceFault → ⊥) → GainsSome old new (Draws view r text)
 refused view text n old new (Ok Done) first ok err ended never = absurd (cc ended)
 refused view text n old new (Ok Refused) first ok err ended never = (refusal_line n, ok, record { line = n; first = first; whole = refl })

@@ -1,6 +1,6 @@
-pub mod Cutting
 pub mod OneLine
 pub mod WholeLine
+pub mod LineWay
 pub mod Reading
 pub mod Summing
 pub mod PartsCut
@@ -8,4 +8,8 @@ pub mod Sizes
 pub mod Framing
 pub mod Shortness
 pub mod OneRun
+pub mod WordsCut
+pub mod Travelling
+pub mod OneDrawing
+pub mod Narrow
 pub mod Drawing

@@ -70,14 +70,14 @@ word_one words.Wait text args a b x y = answer_one text a b x y
 
 -- a word is known by its spelling
 
-abbrev word_at : Text → Word
+abbrev pub word_at : Text → Word
 word_at text =
     cond (bytes_eq text (codes "sent")) words.Sent (cond (bytes_eq text (codes "served")) words.Served (cond (bytes_eq text (codes "crashed")) words.Crashed
     (cond (bytes_eq text (codes "faulted")) words.Faulted (cond (bytes_eq text (codes "got")) words.Got (cond (bytes_eq text (codes "failed")) words.Failed
     (cond (bytes_eq text (codes "addr")) words.Addr (cond (bytes_eq text (codes "boot")) words.Boot (cond (bytes_eq text (codes "out")) words.Out
     (cond (bytes_eq text (codes "in")) words.In (cond (bytes_eq text (codes "drop")) words.Drop words.Wait))))))))))
 
-word_back : (word : Word) → word_at (spelling word) ≡ word
+pub word_back : (word : Word) → word_at (spelling word) ≡ word
 word_back words.Sent = refl
 word_back words.Served = refl
 word_back words.Crashed = refl
@@ -107,7 +107,7 @@ onto_some : (x : ℕ) (parts : List Text) → onto_first x parts ≡ [] → ⊥
 onto_some x [] e = absurd (cc e)
 onto_some x (part ∷ parts) e = absurd (cc e)
 
-some_field : (text : Text) → fields text ≡ [] → ⊥
+pub some_field : (text : Text) → fields text ≡ [] → ⊥
 some_field [] e = absurd (cc e)
 some_field (b ∷ text) e = elim (cases_Bool (eqb b 32)) [ inl space ↦ absurd (cc (rw space at e)) | inr other ↦ onto_some b (fields text) (rw other at e) ]
 

@@ -1,15 +1,17 @@
 -- A text is the transcript of one run, or has one first line outside the grammar, and never both or neither.
-use Rattle.std.proofs.Common.{◌≡◌, ℕ, ◌+◌, List, [], ◌∷◌, ◌++◌, length, refl, sym, ◌∙◌, subst, arith, append_assoc}
+use Rattle.std.proofs.Common.{◌≡◌, ◌⊎◌, ℕ, ◌+◌, List, [], ◌∷◌, ◌++◌, length, refl, sym, ◌∙◌, subst, arith, append_assoc, inl, inr}
 use Rattle.std.proofs.lemmas.List.{append-nil}
 use Rattle.std.specs.List.{AllZip}
 use Rattle.sd_text.specs.Texts.{Text}
 use Rattle.sd_view.specs.declared.lines.Line.{Line}
 use Rattle.sd_view.specs.declared.order.SoFar.{SoFar}
 use Rattle.sd_view.specs.Order.{nothing, after, after_all, MayFollow, AllFollow}
-use Rattle.sd_view.specs.Transcript.{lines_of, IsWhole, Say, IsTranscript, IsFirstOutside}
+use Rattle.sd_outside.specs.Lines.{lines}
+use Rattle.sd_view.specs.Transcript.{IsWhole, Say, IsTranscript, IsFirstOutside}
 use Rattle.sd_text.proofs.Exits.{firsts, others as behind}
 use Rattle.sd_view.proofs.Reading.{zip-snoc, follow-snoc}
 use Rattle.sd_view.proofs.WholeLine.{one_whole}
+use Rattle.sd_view.proofs.LineWay.{whole_way, follow_settled}
 
 zip_one : (texts : List Text) (a b : List Line) → AllZip IsWhole texts a → AllZip IsWhole texts b → a ≡ b
 zip_one [] [] [] x y = refl
@@ -20,7 +22,7 @@ zip_one (text ∷ texts) (p ∷ a) [] x y = absurd y
 zip_one (text ∷ texts) (p ∷ a) (q ∷ b) x y = rw (one_whole text p q x.0 y.0, zip_one texts a b x.1 y.1) refl
 
 pub one_run : (text : Text) (a b : List Line) → IsTranscript text a → IsTranscript text b → a ≡ b
-one_run text a b x y = zip_one (lines_of text) a b x.each y.each
+one_run text a b x y = zip_one (lines text) a b x.each y.each
 
 -- lines of which one is in the middle
 record Parted (s : SoFar) (before : List Text) (line : Text) : Type 0 where
@@ -44,13 +46,13 @@ never_both text run n t f =
     let same : p.run ≡ f.run = zip_one f.before p.run f.run p.each f.says.each in
     f.outside p.said p.here (subst (λ (r : List Line). MayFollow (after_all nothing r) p.said) same p.may)
 
--- ---- never neither
+-- ---- the one or the other
 
 -- the lines before say a run, and the rest is left
 record SaySoFar (text : Text) (rest : List Text) : Type 0 where
   before : List Text
   run : List Line
-  parted : lines_of text ≡ before ++ rest
+  parted : lines text ≡ before ++ rest
   says : Say before run
 
 goes_on : (text line : Text) (others : List Text) (s : SaySoFar text (line ∷ others)) (said : Line) → IsWhole line said → MayFollow (after_all nothing s.run) said → SaySoFar text others
@@ -61,22 +63,37 @@ goes_on text line others s said h may = record {
   says = record { each = zip-snoc s.before s.run line said s.says.each h; ordered = follow-snoc nothing s.run said s.says.ordered may };
 }
 
--- lines that go on behind others are those of a transcript, or one of them is the first outside
-neither : (text : Text) (rest : List Text) (s : SaySoFar text rest) → ((run : List Line) → IsTranscript text run → ⊥) → ((n : ℕ) → IsFirstOutside text n → ⊥) → ⊥
-neither text [] s no_run no_first = no_run s.run (subst (λ (texts : List Text). Say texts s.run) (sym (s.parted ∙ append-nil s.before)) s.says)
-neither text (line ∷ others) s no_run no_first = no_first (length s.before + 1) record {
-  before = s.before;
-  line = line;
-  others = others;
-  run = s.run;
-  parted = s.parted;
-  number = refl;
-  says = s.says;
-  outside = λ said h may. neither text others (goes_on text line others s said h may) no_run no_first;
-}
+stops : (text line : Text) (others : List Text) (s : SaySoFar text (line ∷ others)) → ((said : Line) → IsWhole line said → MayFollow (after_all nothing s.run) said → ⊥) → (n : ℕ) × IsFirstOutside text n
+stops text line others s outside = (
+  length s.before + 1,
+  record {
+    before = s.before;
+    line = line;
+    others = others;
+    run = s.run;
+    parted = s.parted;
+    number = refl;
+    says = s.says;
+    outside = outside;
+  },
+)
 
-pub never_neither : (text : Text) → ((run : List Line) → IsTranscript text run → ⊥) → ((n : ℕ) → IsFirstOutside text n → ⊥) → ⊥
-never_neither text no_run no_first = neither text (lines_of text) record { before = []; run = []; parted = refl; says = record { each = tt; ordered = tt } } no_run no_first
+abbrev IsEither : Text → Type 0
+IsEither text = ((run : List Line) × IsTranscript text run) ⊎ ((n : ℕ) × IsFirstOutside text n)
+
+-- lines that go on behind others are those of a transcript, or one of them is the first outside
+goes_either : (text : Text) (rest : List Text) → SaySoFar text rest → IsEither text
+goes_either text [] s = inl (s.run, subst (λ (texts : List Text). Say texts s.run) (sym (s.parted ∙ append-nil s.before)) s.says)
+goes_either text (line ∷ others) s = elim (whole_way line) [
+  | inl said ↦ elim (follow_settled (after_all nothing s.run) said.0) [
+    | inl may ↦ goes_either text others (goes_on text line others s said.0 said.1 may)
+    | inr never ↦ inr (stops text line others s (λ next h may. never (subst (λ (l : Line). MayFollow (after_all nothing s.run) l) (one_whole line next said.0 h said.1) may)))
+  ]
+  | inr none ↦ inr (stops text line others s (λ next h may. none next h))
+]
+
+pub either : (text : Text) → IsEither text
+either text = goes_either text (lines text) record { before = []; run = []; parted = refl; says = record { each = tt; ordered = tt } }
 
 -- ---- one first line outside
 

@@ -8,7 +8,8 @@ use Rattle.sd_view.specs.declared.lines.Line.{Line}
 use Rattle.sd_view.specs.declared.lines.Line.TheVariants.{Sent, Came, Failed, Answer}
 use Rattle.sd_view.specs.declared.order.SoFar.{SoFar}
 use Rattle.sd_view.specs.Order.{nothing, after, after_all, MayFollow, AllFollow}
-use Rattle.sd_view.specs.Transcript.{lines_of, IsWhole, Say, IsTranscript, IsFirstOutside}
+use Rattle.sd_outside.specs.Lines.{lines}
+use Rattle.sd_view.specs.Transcript.{IsWhole, Say, IsTranscript, IsFirstOutside}
 
 pub zip-snoc : (texts : List Text) (run : List Line) (text : Text) (line : Line) → AllZip IsWhole texts run → IsWhole text line → AllZip IsWhole (texts ++ (text ∷ [])) (run ++ (line ∷ []))
 zip-snoc [] [] text line z h = (h, tt)
@@ -29,7 +30,7 @@ one_more s (Answer answer) = omega arith
 -- The lines before say the run, what it leaves is known, and the rest is left.
 pub record IsSoFar (text rest : Text) (run : List Line) (known : SoFar) (number : ℕ) : Type 0 where
   pub before : List Text
-  pub parted : lines_of text ≡ before ++ lines_of rest
+  pub parted : lines text ≡ before ++ lines rest
   pub says : Say before run
   pub is_known : known ≡ after_all nothing run
   pub count : number ≡ length before
@@ -40,7 +41,7 @@ pub so_far_begins : (text : Text) → IsSoFar text text [] nothing 0
 so_far_begins text = record { before = []; parted = refl; says = record { each = tt; ordered = tt }; is_known = refl; count = refl; room = omega arith; few = omega arith }
 
 pub so_far_goes_on : (text rest : Text) (run : List Line) (known : SoFar) (number : ℕ) (line next : Text) (said : Line) → IsSoFar text rest run known number
-    → lines_of rest ≡ line ∷ lines_of next → length next < length rest → IsWhole line said → MayFollow known said
+    → lines rest ≡ line ∷ lines next → length next < length rest → IsWhole line said → MayFollow known said
     → IsSoFar text next (run ++ (said ∷ [])) (after known said) (number + 1)
 so_far_goes_on text rest run known number line next said s first shorter h may = record {
   before = s.before ++ (line ∷ []);
@@ -53,11 +54,11 @@ so_far_goes_on text rest run known number line next said s first shorter h may =
 }
 
 pub refused_here : (text rest : Text) (run : List Line) (known : SoFar) (number : ℕ) (line next : Text) → IsSoFar text rest run known number
-    → lines_of rest ≡ line ∷ lines_of next → ((said : Line) → IsWhole line said → MayFollow known said → ⊥) → IsFirstOutside text (number + 1)
+    → lines rest ≡ line ∷ lines next → ((said : Line) → IsWhole line said → MayFollow known said → ⊥) → IsFirstOutside text (number + 1)
 refused_here text rest run known number line next s first none = record {
   before = s.before;
   line = line;
-  others = lines_of next;
+  others = lines next;
   run = run;
   parted = s.parted ∙ ap (λ (more : List Text). s.before ++ more) first;
   number = ap (λ k. k + 1) s.count;
@@ -67,5 +68,5 @@ refused_here text rest run known number line next s first none = record {
 
 pub all_read : (text rest : Text) (run : List Line) (known : SoFar) (number : ℕ) → rest ≡ [] → IsSoFar text rest run known number → IsTranscript text run
 all_read text rest run known number none s =
-    let all : lines_of text ≡ s.before = s.parted ∙ rw none (append-nil s.before) in
+    let all : lines text ≡ s.before = s.parted ∙ rw none (append-nil s.before) in
     subst (λ (texts : List Text). Say texts run) (sym all) s.says

@@ -1,12 +1,10 @@
 -- A capture file in the classic format (libpcap's savefile, version 2.4), the highest byte of each number first.
-use Rattle.std.specs.Prelude.{ℕ, ◌*◌, ◌/◌, ◌%◌, ◌≤◌, List, [], ◌∷◌, ◌++◌, length, map, flat_map}
-use Rattle.std.specs.List.{range_with_len}
-use Rattle.sd_outside.specs.declared.packet.Addr.{Addr}
+use Rattle.std.specs.Prelude.{ℕ, ◌*◌, ◌/◌, ◌%◌, ◌≤◌, List, [], ◌∷◌, ◌++◌, length, flat_map}
 use Rattle.sd_outside.specs.declared.packet.Packet.{Packet}
 use Rattle.sd_outside.specs.declared.packet.Packet.TheVariants.{Frame, Udp}
 use Rattle.sd_view.specs.declared.lines.Line.{Line}
 use Rattle.sd_view.specs.declared.lines.Line.TheVariants.{Sent, Came, Failed, Answer}
-use Rattle.sd_view.specs.Internet.{half, word, frame_of, frames}
+use Rattle.sd_view.specs.Internet.{half, word, frames}
 
 -- the file's header: its magic number, version 2.4, no shift to GMT, no accuracy of the times, at most 65,535 bytes of a frame, and
 -- 1 for Ethernet
@@ -20,10 +18,6 @@ frame_header tick size = word (tick / 100 % 4294967296) ++ word (tick % 100 * 10
 
 abbrev pub framed : ℕ → List ℕ → List ℕ
 framed tick frame = frame_header tick (length frame) ++ frame
-
--- so many parts of a datagram from part i on, each in its frame
-abbrev pub framed_from : ℕ → ℕ → Addr → Addr → List ℕ → ℕ → ℕ → List ℕ
-framed_from tick id src dst bytes i count = flat_map (λ frame. framed tick frame) (map (λ k. frame_of id src dst bytes k) (range_with_len i count))
 
 -- what a packet is on the Ethernet: a frame is itself
 abbrev pub frames_of : ℕ → Packet → List (List ℕ)

@@ -1,5 +1,5 @@
 -- Datagrams as they are on an Ethernet: UDP (RFC 768) in internet packets (RFC 791) in frames.
-use Rattle.std.specs.Prelude.{ℕ, ◌+◌, ◌-◌, ◌*◌, ◌/◌, ◌%◌, nat_lt, ◌==◌, List, [], ◌∷◌, ◌++◌, length, take, drop, map, replicate, if◌then◌else◌}
+use Rattle.std.specs.Prelude.{ℕ, ◌+◌, ◌-◌, ◌*◌, ◌/◌, ◌%◌, nat_lt, ◌==◌, List, [], ◌∷◌, ◌++◌, length, take, drop, map, replicate, fold, if◌then◌else◌}
 use Rattle.std.specs.Int.{w16, w32, to_be_bytes}
 use Rattle.std.specs.List.{range_with_len}
 use Rattle.sd_outside.specs.declared.packet.Addr.{Addr}
@@ -18,15 +18,15 @@ word n = to_be_bytes w32 n
 abbrev pub ones_add : ℕ → ℕ → ℕ
 ones_add a b = if nat_lt (a + b) 65536 then a + b else a + b - 65535
 
--- The words of 16 bits of some bytes, added to a sum one after another. An odd last byte is the high one of its word.
-abbrev pub ones_sum : ℕ → List ℕ → ℕ
-ones_sum sum [] = sum
-ones_sum sum (high ∷ []) = ones_add sum (high * 256)
-ones_sum sum (high ∷ low ∷ bytes) = ones_sum (ones_add sum (high * 256 + low)) bytes
+-- the words of 16 bits of some bytes; an odd last byte is the high one of its word
+abbrev pub words_of : List ℕ → List ℕ
+words_of [] = []
+words_of (high ∷ []) = high * 256 ∷ []
+words_of (high ∷ low ∷ bytes) = (high * 256 + low) ∷ words_of bytes
 
--- the one's complement of the one's complement sum
+-- the one's complement of their one's complement sum
 unfoldable pub checksum : List ℕ → ℕ
-checksum bytes = 65535 - ones_sum 0 bytes
+checksum bytes = 65535 - fold ones_add 0 (words_of bytes)
 
 -- ---- UDP (RFC 768)
 
@@ -97,11 +97,13 @@ hardware_address ip = if ip == 0xffffffff then replicate 6 0xff else (2 ∷ 0 �
 abbrev pub ethernet : ℕ → ℕ → List ℕ → List ℕ
 ethernet src dst payload = hardware_address dst ++ hardware_address src ++ (8 ∷ 0 ∷ []) ++ payload
 
--- the frames of datagram number id, one for each part
+-- the frames with the bytes of datagram number id, one for each part
 abbrev pub frame_of : ℕ → Addr → Addr → List ℕ → ℕ → List ℕ
 frame_of id src dst bytes i = ethernet src.ip dst.ip (fragment id src dst bytes i)
 
+abbrev pub frames_in : ℕ → Addr → Addr → List ℕ → List (List ℕ)
+frames_in id src dst bytes = map (λ i. frame_of id src dst bytes i) (range_with_len 0 (parts_of (length bytes)))
+
+-- those of the datagram with this body
 abbrev pub frames : ℕ → Addr → Addr → List ℕ → List (List ℕ)
-frames id src dst body =
-    let bytes = datagram src dst body in
-    map (λ i. frame_of id src dst bytes i) (range_with_len 0 (parts_of (length bytes)))
+frames id src dst body = frames_in id src dst (datagram src dst body)

@@ -3,4 +3,10 @@ pub mod Order
 pub mod Transcript
 pub mod Internet
 pub mod Capture
+pub mod Ends
+pub mod Protocols
+pub mod Brief
+pub mod Journeys
+pub mod Ladder
+pub mod Picture
 pub mod Views

@@ -1,17 +1,13 @@
 -- Which texts are transcripts, and which line is the first outside the grammar.
 use Rattle.std.specs.Prelude.{◌≡◌, ℕ, ◌+◌, ◌==◌, List, [], ◌∷◌, ◌++◌, length, if◌then◌else◌}
-use Rattle.std.specs.List.{AllZip, onto_first}
+use Rattle.std.specs.List.{AllZip}
+use Rattle.sd_outside.specs.Lines.{lines}
 use Rattle.sd_text.specs.Texts.{Text}
 use Rattle.sd_view.specs.declared.lines.Line.{Line}
 use Rattle.sd_view.specs.declared.transcript.TranscriptError.{TranscriptError}
 use Rattle.sd_view.specs.declared.transcript.TranscriptError.TheVariants as errors
 use Rattle.sd_view.specs.Lines.{IsLine}
 use Rattle.sd_view.specs.Order.{nothing, MayFollow, AllFollow, after_all}
-
--- The lines of a text, each with the line feed that ends it. The last one is unfinished where the text ends in no line feed.
-abbrev pub lines_of : Text → List Text
-lines_of [] = []
-lines_of (b ∷ text) = if b == 10 then (b ∷ []) ∷ lines_of text else onto_first b (lines_of text)
 
 -- a line with its line feed
 pub record IsWhole (text : Text) (line : Line) : Type 0 where
@@ -26,7 +22,7 @@ pub record Say (texts : List Text) (run : List Line) : Type 0 where
 
 -- the text is the transcript of this run
 abbrev pub IsTranscript : Text → List Line → Type 0
-IsTranscript text run = Say (lines_of text) run
+IsTranscript text run = Say (lines text) run
 
 -- Line n is there, the lines before it are those of a transcript, and nothing that it could say may follow them. An unfinished line
 -- says nothing.
@@ -35,7 +31,7 @@ pub record IsFirstOutside (text : Text) (n : ℕ) : Type 0 where
   pub line : Text
   pub others : List Text
   pub run : List Line
-  pub parted : lines_of text ≡ before ++ (line ∷ others)
+  pub parted : lines text ≡ before ++ (line ∷ others)
   pub number : n ≡ length before + 1
   pub says : Say before run
   pub outside : (next : Line) → IsWhole line next → MayFollow (after_all nothing run) next → ⊥

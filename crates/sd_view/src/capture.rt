@@ -1,8 +1,8 @@
 //! The capture file of a run.
 ghost use Rattle.std.specs.Prelude.{◌≡◌, ◌≤◌, ◌++◌, length, flat_map, OnOk, IfOk};
 ghost use Rattle.std.specs.List.{All};
-ghost use Rattle.sd_view.specs.Internet.{frames, parts_of};
-ghost use Rattle.sd_view.specs.Capture.{file_header, frame_header, framed, framed_from, captured, capture, HasShort};
+ghost use Rattle.sd_view.specs.Internet.{frames_in, frames};
+ghost use Rattle.sd_view.specs.Capture.{file_header, frame_header, framed, captured, capture, HasShort};
 
 use crate::internet::{datagram, frame_of, parts_of, push_half, push_word};
 use crate::lines::Line;
@@ -54,7 +54,7 @@ fn push_parts(
     bytes: &[u8],
 ) -> Result<(), NoMemory>
     requires { length bytes.now ≤ 9224 }
-    ensures { OnOk result (out.new ≡ out.old ++ framed_from tick id src dst bytes.now 0 (parts_of (length bytes.now))) }
+    ensures { OnOk result (out.new ≡ out.old ++ flat_map (λ frame. framed tick frame) (frames_in id src dst bytes.now)) }
 {
     for index in 0..parts_of(bytes.len()) {
         let frame = frame_of(alloc, id, src, dst, bytes, index)?;

@@ -7,16 +7,16 @@ ghost use Rattle.sd_text.specs.Texts.{IsNumber, fields};
 ghost use Rattle.sd_view.specs.Lines.{greatest, is_printable, IsSent, IsCame, IsFailed, IsAnswer, WordLine, IsLine};
 
 use crate::words::{Word, word_of};
-use sd_outside::{ByteList, Packet};
+use sd_outside::{ByteList, Packet, place_of};
 use sd_text::{
-    LineError, PacketLineError, Parts, only_number, place_of, read_number, read_packet_line,
-    take_end, take_number,
+    LineError, PacketLineError, Parts, only_number, read_number, read_packet_line, take_end,
+    take_number,
 };
 use std::alloc::Global;
 
 /// How a packet ended where it arrived.
 #[derive(Clone, Copy, Debug, PartialEq, Eq)]
-pub(crate) enum Arrival {
+pub enum Arrival {
     /// It came to the server, and was served.
     Served,
     /// It came to the server, which crashed meanwhile.
@@ -29,7 +29,7 @@ pub(crate) enum Arrival {
 
 /// What a line says. Ticks and the numbers of packets are those that it shows.
 #[derive(Debug, Drop)]
-pub(crate) enum Line {
+pub enum Line {
     /// The packet was sent, by the client, the server or a stranger.
     Sent { tick: u64, id: u64, packet: Packet },
     /// The packet with this number arrived.

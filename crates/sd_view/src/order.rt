@@ -6,7 +6,7 @@ use crate::lines::Line;
 
 /// What the lines so far say of those that may follow.
 #[derive(Clone, Copy, Debug, PartialEq, Eq)]
-pub(crate) struct SoFar {
+pub struct SoFar {
     /// The tick of the latest.
     pub tick: u64,
     /// How many packets were sent.
@@ -15,7 +15,7 @@ pub(crate) struct SoFar {
 
 impl SoFar {
     /// Whether a line may follow.
-    pub fn may_follow(&self, line: &Line) -> bool
+    pub(crate) fn may_follow(&self, line: &Line) -> bool
         ensures { IsTrue result ↔ MayFollow self.now line.now }
     {
         match line {
@@ -27,7 +27,7 @@ impl SoFar {
     }
 
     /// What is known after a line.
-    pub fn after(&self, line: &Line) -> SoFar
+    pub(crate) fn after(&self, line: &Line) -> SoFar
         requires { self.now.sent + 1 < 2 ^ 64 }
         ensures { result ≡ after self.now line.now }
     {

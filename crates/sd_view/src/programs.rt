@@ -2,11 +2,11 @@
 ghost use Rattle.std.specs.Prelude.{◌≡◌, ◌⊎◌, ◌≤◌, ℕ, List, [], OnOk, IfOk, IfSome, IsErrOf, Some};
 ghost use Rattle.sd_outside.specs.Causes.{Rose};
 ghost use Rattle.sd_outside.specs.Streams.{Gains};
-ghost use Rattle.sd_streams.specs.Writing.{GainsFront, GainsSome, Writes};
+ghost use Rattle.sd_streams.specs.Writing.{GainsPrefix, GainsSome, Writes};
 ghost use Rattle.sd_view.specs.declared.lines.Line.{Line};
 ghost use Rattle.sd_view.specs.declared.views.View.{View};
 ghost use Rattle.sd_view.specs.Transcript.{IsTranscript, IsFirstOutside};
-ghost use Rattle.sd_view.specs.Views.{HasWords, IsDrawn, IsRefusal, IsFront, Draws, usage_line};
+ghost use Rattle.sd_view.specs.Views.{HasWords, IsDrawn, IsRefusal, IsOutputPrefix, Draws, usage_line};
 
 use crate::output::{refuse, usage, write};
 use crate::status::{Ended, Status, Stop, status_of};
@@ -93,13 +93,13 @@ pub fn run<S: Source, K: Sink>(
     ensures refusal { (view : View) → HasWords view words.now → result.0 ≡ 1 →
         Writes (S.left source.old) (K.written sink.old) (K.written sink.new) IsRefusal }
     // Cut short by the sink or by running out of memory: the output is a prefix of the one or the other.
-    ensures front { (view : View) → HasWords view words.now → 4 ≤ result.0 →
-        Writes (S.left source.old) (K.written sink.old) (K.written sink.new) (IsFront view) }
+    ensures prefix { (view : View) → HasWords view words.now → 4 ≤ result.0 →
+        Writes (S.left source.old) (K.written sink.old) (K.written sink.new) (IsOutputPrefix view) }
     // Cut short by the source: nothing was written.
     ensures nothing { result.0 ≡ 3 → K.written sink.new ≡ K.written sink.old }
     // The usage line stands exactly where the arguments are unknown, or a prefix of it where the sink failed. Nothing is read then.
     ensures usage { result.0 ≡ 2 → Gains (K.written sink.old) (K.written sink.new) usage_line }
-    ensures usage_front { ((view : View) → HasWords view words.now → ⊥) → result.0 ≡ 4 → GainsFront (K.written sink.old) (K.written sink.new) usage_line }
+    ensures usage_prefix { ((view : View) → HasWords view words.now → ⊥) → result.0 ≡ 4 → GainsPrefix (K.written sink.old) (K.written sink.new) usage_line }
     ensures unread { ((view : View) → HasWords view words.now → ⊥) → S.left source.new ≡ S.left source.old }
     ensures unknown { ((view : View) → HasWords view words.now → ⊥) → (result.0 ≡ 2) ⊎ (result.0 ≡ 4) }
     ensures known { (view : View) → HasWords view words.now → result.0 ≡ 2 → ⊥ }

@@ -1,12 +1,12 @@
 //! Reading a transcript, line by line.
 ghost use Rattle.std.specs.Prelude.{◌≡◌, ◌<◌, ◌∷◌, length, IfOk, IfErr};
 ghost use Rattle.sd_text.specs.Answers.{Reads};
-ghost use Rattle.sd_view.specs.Transcript.{lines_of, IsWhole, IsTranscript, IsTranscriptError};
+ghost use Rattle.sd_view.specs.Transcript.{IsWhole, IsTranscript, IsTranscriptError};
 
 use crate::lines::{Line, read_line};
 use crate::order::SoFar;
-use sd_outside::{ListOf, NoMemory};
-use sd_text::{LineError, place_of};
+use sd_outside::{ListOf, NoMemory, split_line};
+use sd_text::LineError;
 use std::alloc::Global;
 
 /// Why a text is no transcript, or wasn't read.
@@ -26,18 +26,6 @@ impl From<NoMemory> for TranscriptError {
 
     fn from(_: NoMemory) -> Self {
         TranscriptError::NoMemory
-    }
-}
-
-/// The first line, with its line feed if it has one, and what follows it.
-fn split_line(text: &[u8]) -> (&[u8], &[u8])
-    requires { 0 < length text.now }
-    ensures lines { lines_of text.now ≡ result.0.now ∷ lines_of result.1.now }
-    ensures shorter { length result.1.now < length text.now }
-{
-    match place_of(text, b'\n') {
-        Some(at) => (&text[..at + 1], &text[at + 1..]),
-        None => (text, &text[text.len()..]),
     }
 }
 

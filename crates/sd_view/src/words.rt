@@ -5,7 +5,7 @@ ghost use Rattle.sd_view.specs.Lines.{spelling};
 
 /// The first words of lines.
 #[derive(Clone, Copy, Debug, PartialEq, Eq)]
-pub(crate) enum Word {
+pub enum Word {
     Sent,
     Served,
     Crashed,

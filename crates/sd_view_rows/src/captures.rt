@@ -3,32 +3,13 @@
 mod parts;
 mod rows;
 
+use crate::running::{ran, words};
 use parts::{FILE_HEADER, LONG, LONG_PARTS, OVER, OVER_PARTS, Part, WHOLE, WHOLE_PARTS};
 use rows::ROWS;
-use sd_outside::{ByteList, CalmSink, CalmSource, MemSink, MemSource};
+use sd_outside::{ByteList, MemSink, MemSource};
 use sd_view::run;
 use std::alloc::Global;
 use std::test::Fail;
-
-fn words(alloc: Global, all: &[&str]) -> Result<Vec<ByteList>, Fail> {
-    let mut words = Vec::new(alloc);
-    for word in all {
-        words.push(ByteList::from_slice(alloc, word.as_bytes())?)?;
-    }
-    Ok(words)
-}
-
-/// What the program of these words writes, and its status.
-fn ran(alloc: Global, all: &[&str], input: &[u8]) -> Result<(u8, ByteList), Fail> {
-    let words = words(alloc, all)?;
-    let mut source = CalmSource::new(alloc, input)?;
-    let mut sink = CalmSink::new(alloc, 65_536)?;
-    let status = run(alloc, words.as_slice(), &mut source, &mut sink);
-    match sink.bytes() {
-        Some(bytes) => Ok((status.0, ByteList::from_slice(alloc, bytes)?)),
-        None => Ok((status.0, ByteList::empty(alloc))),
-    }
-}
 
 #[test]
 fn captures_the_rows(rt: HostRuntime) -> Result<(), Fail> {
@@ -74,7 +55,10 @@ fn knows_its_words_alone(rt: HostRuntime) -> Result<(), Fail> {
     for words in rows {
         let (status, output) = ran(rt.alloc(), words, b"")?;
         assert_eq!(rt; status, 2);
-        assert_eq!(rt; output.as_slice(), b"usage: pcap\n".as_slice());
+        assert_eq!(rt;
+            output.as_slice(),
+            b"usage: ladder | pcap | svg\n".as_slice()
+        );
     }
     Ok(())
 }

@@ -3,3 +3,7 @@
 
 #[cfg(test)]
 mod captures;
+#[cfg(test)]
+mod drawings;
+#[cfg(test)]
+mod running;

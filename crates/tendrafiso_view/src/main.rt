@@ -1,4 +1,4 @@
-//! Captures of a run, from standard input to standard output.
+//! Views of a run, from standard input to standard output.
 #![tactic(auto)]
 
 use sd_outside::{ByteList, NoMemory};

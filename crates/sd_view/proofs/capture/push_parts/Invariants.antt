@@ -1,6 +1,6 @@
 use Rattle.std.proofs.Common.{◌≡◌, ◌++◌, ◌-◌, length}
 use Rattle.sd_view.specs.Internet.{parts_of}
-use Rattle.sd_view.specs.Capture.{framed_from}
+use Rattle.sd_view.proofs.Framing.{framed_from}
 use Rattle.sd_view.proofs.capture.push_parts.Given as goal
 
 abbrev pub invariant-loop-index : goal.invariant-loop-index

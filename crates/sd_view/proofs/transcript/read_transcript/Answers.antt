@@ -1,4 +1,4 @@
-use Rattle.std.proofs.Common.{refl, sym, subst}
+use Rattle.std.proofs.Common.{◌<◌, length, refl, sym, ap, subst, arith, length-append}
 use Rattle.std.proofs.lemmas.Bool.{false≢true}
 use Rattle.std.specs.Prelude.{◌+◌, List}
 use Rattle.sd_view.specs.declared.lines.Line.{Line}
@@ -22,7 +22,8 @@ returns-in-Err-Outside-clause-refused c =
 pub loop-rest-preserved : goal.loop-rest-preserved
 loop-rest-preserved c =
     let may : MayFollow c.loop-rest.so_far c.in-Ok.said = c.if-not-may_follow.ensures.0 refl in
+    let shorter : length c.split_line.result.1.now < length c.loop-rest.rest.now = omega (arith, ap length c.split_line.ensures.whole, length-append c.split_line.result.0.now c.split_line.result.1.now, c.split_line.ensures.some) in
     let new = so_far_goes_on c.args.text.now c.loop-rest.rest.now c.loop-rest.run c.loop-rest.so_far c.loop-rest.number c.split_line.result.0.now c.split_line.result.1.now c.in-Ok.said c.loop-rest.invariant
-    c.split_line.ensures.lines c.split_line.ensures.shorter c.in-Ok.ensures may in
+    c.split_line.ensures.lines shorter c.in-Ok.ensures may in
     subst (λ (s : SoFar). IsSoFar c.args.text.now c.split_line.result.1.now c.push.new.self s (c.loop-rest.number + 1)) (sym c.after-so_far.ensures)
     (subst (λ (r : List Line). IsSoFar c.args.text.now c.split_line.result.1.now r (after c.loop-rest.so_far c.in-Ok.said) (c.loop-rest.number + 1)) (sym c.in_ok-push-in-Ok.ensures.ok) new)

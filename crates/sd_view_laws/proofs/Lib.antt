@@ -1,0 +1,4 @@
+mod Printed
+mod LinesWritten
+mod InOrder
+mod LineByLine
