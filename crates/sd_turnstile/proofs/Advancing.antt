@@ -1,5 +1,5 @@
 -- Serving the next ticket keeps the rule: the turn is over, and its entry is the last of the history.
-use Rattle.std.proofs.Common.{◌≡◌, ◌≢◌, ℕ, ◌+◌, ◌%◌, ◌^◌, ◌<◌, ◌≤◌, List, [], ◌∷◌, ◌++◌, length, set, get_or, sym, ap, ◌∙◌, subst, arith, append-nil, length-set, get_or-set_same, get_or-set_other, Option, Some, inr}
+use Rattle.std.proofs.Common.{◌≡◌, ◌≢◌, ℕ, ◌+◌, ◌%◌, ◌^◌, ◌<◌, ◌≤◌, List, [], ◌∷◌, ◌++◌, length, set, get_or, sym, ap, ◌∙◌, subst, arith, append-nil, length-set, get_or-set_same, get_or-set_other, Option, Some, None, refl, inl, inr}
 use mathlib.Core.Option.{some, none}
 use lib.ListN.{get_elem?}
 use Rattle.atomic_table.specs.Table.{State, Me, step, rest, gives, stepped, Allows}
@@ -7,9 +7,9 @@ use Rattle.atomic_table.proofs.Lists.{set_here, set_else}
 use Rattle.sd_turnstile.specs.declared.view.Stage.TheVariants.{Idle, Serving}
 use Rattle.sd_turnstile.specs.declared.view.View.{View}
 use Rattle.sd_turnstile.specs.History.{entries, IsBy}
-use Rattle.sd_turnstile.specs.Order.{tickets, turns, ticket_of, view, Fits, all_tickets, all_turns, InOrder}
+use Rattle.sd_turnstile.specs.Order.{tickets, turns, ticket_of, view, heard, Fits, all_tickets, all_turns, InOrder}
 use Rattle.sd_turnstile.specs.Plays.{advanced}
-use Rattle.sd_turnstile.proofs.Lists.{at_less, all_set, total-set, term_le, terms_le, starts_more, calls_by-append, own_entries, other_entries}
+use Rattle.sd_turnstile.proofs.Lists.{at_less, set_there, all_set, total-set, term_le, terms_le, starts_more, calls_by-append, own_entries, other_entries}
 use Rattle.sd_turnstile.proofs.Ordered.{next_ticket, close_numbers, few_tickets, same_seat}
 
 module _ {O E : Type 0} (caller : E → ℕ) (leads : O → List E → O → Type 0) (x0 : O) (seats : ℕ) where
@@ -27,7 +27,7 @@ module _ {O E : Type 0} (caller : E → ℕ) (leads : O → List E → O → Typ
   advances slots id t entry y m serving some_part has by_me legal s r _ at _ =
       let n : ℕ = get_or s.words 1 0 in
       let es : List E = entries entry in
-      let w : V = view m.0.parts (m.0.seen ++ es) (m.0.own ++ es) m.0.told Idle in
+      let w : V = view m.0.parts (m.0.seen ++ es) (m.0.own ++ es) None Idle in
       let mine = r.each_seat id m.0 at in
       let wide = r.wide in
       let deep = r.deep in
@@ -75,7 +75,8 @@ module _ {O E : Type 0} (caller : E → ℕ) (leads : O → List E → O → Typ
           each_seat = all_set (λ j v. Fits caller (r.history ++ es) r.drawn (r.served + 1) j v) s.views id w
               record {
                 begins = ([], ap (λ (l : List E). l ++ es) (sym seen) ∙ sym (append-nil (m.0.seen ++ es)));
-                heard = starts_more r.history m.0.told es mine.heard;
+                told_begins = (r.history ++ es, refl);
+                theirs = tt;
                 mine = λ p. calls_by-append caller id r.history es ∙ (λ i. mine.mine some_part i ++ own_entries caller id entry by_me i);
                 mine_seen = λ p. calls_by-append caller id m.0.seen es ∙ (λ i. mine.mine_seen some_part i ++ own_entries caller id entry by_me i);
                 live = inr some_part;
@@ -85,7 +86,8 @@ module _ {O E : Type 0} (caller : E → ℕ) (leads : O → List E → O → Typ
               }
               (λ j u ne e. let f = r.each_seat j u e in record {
                 begins = starts_more r.history u.seen es f.begins;
-                heard = starts_more r.history u.told es f.heard;
+                told_begins = starts_more r.history (heard u.told) es f.told_begins;
+                theirs = f.theirs;
                 mine = λ p. calls_by-append caller j r.history es ∙ ((λ i. f.mine p i ++ other_entries caller id j entry by_me ne i) ∙ append-nil u.own);
                 mine_seen = f.mine_seen;
                 live = f.live;
@@ -95,6 +97,7 @@ module _ {O E : Type 0} (caller : E → ℕ) (leads : O → List E → O → Typ
                     let both = terms_le (λ (v : V). turns v.stage) s.views id j m.0 u ne at e in
                     absurd (omega arith);
               });
+          known = (id, w, set_there s.views id m.0 w at, some_part, inl (ap (λ (l : List E). l ++ es) seen));
           unmade = λ j l.
               let long : length s.views ≤ j = omega (arith, length-set s.views id w) in
               let ne : j ≢ id = λ same. absurd (omega (arith, at_less s.views id m.0 at)) in

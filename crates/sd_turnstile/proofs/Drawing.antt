@@ -11,7 +11,7 @@ use Rattle.sd_turnstile.specs.declared.view.View.{View}
 use Rattle.sd_turnstile.specs.Order.{tickets, turns, ticket_of, view, Fits, all_turns, InOrder}
 use Rattle.sd_turnstile.specs.Plays.{drew}
 use Rattle.sd_turnstile.proofs.Lists.{set_there, all_set, total-set}
-use Rattle.sd_turnstile.proofs.Ordered.{next_ticket, close_numbers, few_tickets}
+use Rattle.sd_turnstile.proofs.Ordered.{next_ticket, close_numbers, known_set, few_tickets}
 
 module _ {O E : Type 0} (caller : E → ℕ) (leads : O → List E → O → Type 0) (x0 : O) (seats : ℕ) where
   abbrev M : Type 0
@@ -69,7 +69,8 @@ module _ {O E : Type 0} (caller : E → ℕ) (leads : O → List E → O → Typ
           each_seat = all_set (λ by v. Fits caller r.history (r.drawn + 1) r.served by v) s.views id w
               record {
                 begins = mine.begins;
-                heard = mine.heard;
+                told_begins = mine.told_begins;
+                theirs = mine.theirs;
                 mine = mine.mine;
                 mine_seen = mine.mine_seen;
                 live = inr some_part;
@@ -79,7 +80,8 @@ module _ {O E : Type 0} (caller : E → ℕ) (leads : O → List E → O → Typ
               }
               (λ j u ne e. let f = r.each_seat j u e in record {
                 begins = f.begins;
-                heard = f.heard;
+                told_begins = f.told_begins;
+                theirs = f.theirs;
                 mine = f.mine;
                 mine_seen = f.mine_seen;
                 live = f.live;
@@ -87,6 +89,7 @@ module _ {O E : Type 0} (caller : E → ℕ) (leads : O → List E → O → Typ
                 queued = λ one. let q = f.queued one in (q.0, q.1, (let l = q.2 in omega arith), q.3);
                 turn = f.turn;
               });
+          known = known_set r.history s.views id m.0 w at (λ p k. (p, k)) r.known;
           unmade = λ by l. r.unmade by (omega (arith, length-set s.views id w));
           home = λ z. r.home (omega arith);
           away = λ z. r.away (omega arith);

@@ -2,7 +2,7 @@
 use Rattle.std.proofs.Common.{◌≡◌, ◌≢◌, ◌⊎◌, ℕ, zero, suc, ◌+◌, ◌<◌, ◌≤◌, List, [], ◌∷◌, ◌++◌, length, set, refl, sym, ap, ◌∙◌, subst, inl, inr, ⊎_elim, arith, append_assoc, append-nil, length-append, le-leb, eqb, eq-eqb, ne_eqb}
 use Rattle.std.proofs.lemmas.List.Elements.{filter-append}
 use Rattle.std.proofs.lemmas.Bool.{lt-leb}
-use Rattle.std.specs.Prelude.{Bool, Option, None, Some, if◌then◌else◌}
+use Rattle.std.specs.Prelude.{Bool, true, false, nat_le, Option, None, Some, if◌then◌else◌}
 use mathlib.Core.Logic.{dite}
 use mathlib.Core.Option.{some, some-injective, some-ne-none}
 use native.Mathlib.Decide.{dec_le}
@@ -73,7 +73,7 @@ module _ {E : Type 0} where
   empty [] e = refl
   empty (x ∷ xs) e = absurd (omega arith)
 
-  append_none : (xs ys : List E) → xs ++ ys ≡ [] → xs ≡ []
+  pub append_none : (xs ys : List E) → xs ++ ys ≡ [] → xs ≡ []
   append_none xs ys e = empty xs (omega (arith, ap length e, length-append xs ys))
 
   pub starts_more : (history seen more : List E) → StartsWith history seen → StartsWith (history ++ more) seen
@@ -98,6 +98,25 @@ module _ {E : Type 0} where
       (t, shorter_begins history xs ys s t le, ([], sym (append-nil ys))))
       (λ gt. subst (λ (b : Bool). let l : List E = if b then ys else xs in StartsWith history l × StartsWith l xs × StartsWith l ys) (sym (lt-leb (length xs) (length ys) (omega arith)))
       (s, ([], sym (append-nil xs)), shorter_begins history ys xs t s (omega arith)))
+
+  pub longer_same : (xs : List E) → longer xs xs ≡ xs
+  longer_same xs = of (nat_le (length xs) (length xs))
+    where
+      of : (b : Bool) → (if b then xs else xs) ≡ xs
+      of true = refl
+      of false = refl
+
+  begins_both : (xs ys : List E) → StartsWith xs ys → StartsWith ys xs → xs ≡ ys
+  begins_both xs ys s t =
+      let none_more : s.0 ≡ [] = empty s.0 (omega (arith, ap length s.1, ap length t.1, length-append ys s.0, length-append xs t.0)) in
+      s.1 ∙ (ap (λ l. ys ++ l) none_more ∙ append-nil ys)
+
+  -- where one of two beginnings is the whole, so is the longer one
+  pub longer_whole : (history xs ys : List E) → StartsWith history xs → StartsWith history ys → (xs ≡ history) ⊎ (ys ≡ history) → longer xs ys ≡ history
+  longer_whole history xs ys s t which =
+      let both = longer_begins history xs ys s t in
+      sym (begins_both history (longer xs ys) both.0
+      (⊎_elim (λ (e : xs ≡ history). subst (λ (l : List E). StartsWith (longer xs ys) l) e both.1) (λ (e : ys ≡ history). subst (λ (l : List E). StartsWith (longer xs ys) l) e both.2) which))
 
   module _ (caller : E → ℕ) where
     pub calls_by-append : (by : ℕ) (xs ys : List E) → calls_by caller by (xs ++ ys) ≡ calls_by caller by xs ++ calls_by caller by ys

@@ -1,5 +1,5 @@
 -- Looking at the ticket that is served keeps the rule: a seat whose ticket it is has its turn.
-use Rattle.std.proofs.Common.{◌≡◌, ℕ, ◌<◌, List, [], set, get_or, refl, sym, ap, ◌∙◌, subst, arith, append-nil, length-set, Option, Some, inr}
+use Rattle.std.proofs.Common.{◌≡◌, ℕ, ◌<◌, List, [], set, get_or, refl, sym, ap, ◌∙◌, subst, arith, append-nil, length-set, Option, Some, None, inl, inr}
 use Rattle.std.specs.Prelude.{IfSome}
 use mathlib.Core.Logic.{dite}
 use mathlib.Core.Option.{none}
@@ -12,7 +12,7 @@ use Rattle.sd_turnstile.specs.declared.view.View.{View}
 use Rattle.sd_turnstile.specs.History.{calls_by}
 use Rattle.sd_turnstile.specs.Order.{tickets, turns, ticket_of, view, Fits, all_turns, InOrder}
 use Rattle.sd_turnstile.specs.Plays.{looked}
-use Rattle.sd_turnstile.proofs.Lists.{all_set, total-set}
+use Rattle.sd_turnstile.proofs.Lists.{set_there, all_set, total-set}
 use Rattle.sd_turnstile.proofs.Ordered.{held_still, apart_still, nobody_turns, unmoved}
 
 module _ {O E : Type 0} (caller : E → ℕ) (leads : O → List E → O → Type 0) (x0 : O) (seats : ℕ) where
@@ -36,7 +36,7 @@ module _ {O E : Type 0} (caller : E → ℕ) (leads : O → List E → O → Typ
       let nobody : all_turns s.views ≡ 0 = nobody_turns caller leads x0 seats s r id m.0 at one none_yet (sym yes_mine ∙ r.now) in
       let there = r.home nobody in
       let x : O = there.0 in
-      let w : V = view m.0.parts r.history m.0.own m.0.told (Serving n) in
+      let w : V = view m.0.parts r.history m.0.own None (Serving n) in
       let mine = r.each_seat id m.0 at in
       let deep = r.deep in
       let ts = total-set (λ (v : V). tickets v.stage) s.views id m.0 w at in
@@ -62,7 +62,8 @@ module _ {O E : Type 0} (caller : E → ℕ) (leads : O → List E → O → Typ
           each_seat = all_set (λ j v. Fits caller r.history r.drawn r.served j v) s.views id w
               record {
                 begins = ([], sym (append-nil r.history));
-                heard = mine.heard;
+                told_begins = (r.history, refl);
+                theirs = tt;
                 mine = mine.mine;
                 mine_seen = mine.mine;
                 live = inr some_part;
@@ -71,6 +72,7 @@ module _ {O E : Type 0} (caller : E → ℕ) (leads : O → List E → O → Typ
                 turn = λ _. (r.now, refl);
               }
               (λ j u ne e. r.each_seat j u e);
+          known = (id, w, set_there s.views id m.0 w at, some_part, inl refl);
           unmade = λ j l. r.unmade j (omega (arith, length-set s.views id w));
           home = λ z. absurd (omega arith);
           away = λ _. set_here s.homes 0 none (omega arith);

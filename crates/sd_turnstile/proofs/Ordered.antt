@@ -1,7 +1,7 @@
 -- What follows from the rule, and a seat that keeps its ticket.
-use Rattle.std.proofs.Common.{◌≡◌, ◌⊎◌, ℕ, ◌+◌, ◌%◌, ◌^◌, ◌<◌, ◌≤◌, List, set, get_or, refl, sym, ap, ◌∙◌, subst, inl, inr, ⊎_elim, arith, Option}
+use Rattle.std.proofs.Common.{◌≡◌, ◌⊎◌, ℕ, ◌+◌, ◌%◌, ◌^◌, ◌<◌, ◌≤◌, List, [], set, get_or, refl, sym, ap, ◌∙◌, subst, inl, inr, ⊎_elim, arith, Option, None}
 use mathlib.Core.Logic.{dite}
-use mathlib.Core.Option.{some, some-injective}
+use mathlib.Core.Option.{some, none, some-injective}
 use native.Mathlib.Decide.{ℕ_discrete, dec_le}
 use lib.ListN.{get_elem?}
 use lib.Seq.{set-get_or}
@@ -10,8 +10,9 @@ use Rattle.atomic_table.proofs.Lists.{set_else, set_again, one_turn}
 use Rattle.sd_turnstile.specs.declared.view.Stage.{Stage}
 use Rattle.sd_turnstile.specs.declared.view.Stage.TheVariants.{Idle, Waiting, Serving}
 use Rattle.sd_turnstile.specs.declared.view.View.{View}
-use Rattle.sd_turnstile.specs.Order.{tickets, turns, ticket_of, all_tickets, all_turns, all_parts, InOrder}
-use Rattle.sd_turnstile.proofs.Lists.{set_there, all_set, total_none, total_le}
+use Rattle.sd_turnstile.specs.History.{StartsWith}
+use Rattle.sd_turnstile.specs.Order.{tickets, turns, ticket_of, heard, all_tickets, all_turns, all_parts, IsKnown, InOrder}
+use Rattle.sd_turnstile.proofs.Lists.{set_there, all_set, total_none, total_le, term_le, append_none}
 
 -- the number after a ticket
 pub next_ticket : (n d : ℕ) → n ≡ d % 2 ^ 64 → (n + 1) % 2 ^ 64 ≡ (d + 1) % 2 ^ 64
@@ -25,6 +26,26 @@ pub turn_or_none : (st : Stage) → (turns st ≡ 0) ⊎ ((turns st ≡ 1) × (t
 turn_or_none Idle = inl refl
 turn_or_none (Waiting t) = inl refl
 turn_or_none (Serving t) = inr (refl, refl)
+
+module _ {E : Type 0} where
+  -- the history is known after one seat has changed, where that seat knows as much as before
+  pub known_set : (history : List E) (views : List (View E)) (id : ℕ) (v w : View E) → get_elem? views id ≡ some v
+      → (0 < v.parts → (v.seen ≡ history) ⊎ (heard v.told ≡ history) → (0 < w.parts) × ((w.seen ≡ history) ⊎ (heard w.told ≡ history)))
+      → IsKnown history views → IsKnown history (set views id w)
+  known_set history views id v w at as_much k =
+      dite (ℕ_discrete k.0 id)
+      (λ same.
+      let is : v ≡ k.1 = some-injective v k.1 (sym at ∙ (ap (get_elem? views) (sym same) ∙ k.2)) in
+      let now = as_much (subst (λ (x : View E). 0 < x.parts) (sym is) k.3) (subst (λ (x : View E). (x.seen ≡ history) ⊎ (heard x.told ≡ history)) (sym is) k.4) in
+      (id, w, set_there views id v w at, now.0, now.1))
+      (λ ne. (k.0, k.1, set_else views id k.0 w ne ∙ k.2, k.3, k.4))
+
+  -- a seat that was told nothing and knows the whole history has seen it
+  pub seen_whole : (history : List E) (v : View E) → v.told ≡ None → StartsWith history v.seen → (v.seen ≡ history) ⊎ (heard v.told ≡ history) → v.seen ≡ history
+  seen_whole history v untold s which =
+      ⊎_elim (λ (e : v.seen ≡ history). e)
+      (λ (e : heard v.told ≡ history). let none_there : history ≡ [] = sym e ∙ ap heard untold in append_none v.seen s.0 (sym s.1 ∙ none_there) ∙ sym none_there)
+      which
 
 module _ {O E : Type 0} (caller : E → ℕ) (leads : O → List E → O → Type 0) (x0 : O) (seats : ℕ) where
   abbrev St : Type 0
@@ -76,6 +97,21 @@ module _ {O E : Type 0} (caller : E → ℕ) (leads : O → List E → O → Typ
       let seat : v ≡ u = same_seat s id j v u at e (sym same) in
       ap (λ (x : V). turns x.stage) (sym seat) ∙ waits)
       (turn_or_none u.stage))
+
+  -- while a seat has its turn, the slot is out
+  pub out_in_turn : (s : St) (r : Rule s) (id t : ℕ) (v : V) → get_elem? s.views id ≡ some v → v.stage ≡ Serving t → get_elem? s.homes 0 ≡ some none
+  out_in_turn s r id t v at serving =
+      let share = term_le (λ (u : V). turns u.stage) s.views id v at in
+      let most = r.one_turn in
+      r.away (omega (arith, ap turns serving))
+
+  -- the rule, where nothing but what is in the slot that is out changes
+  pub exchanged : (s : St) (r : Rule s) (id t : ℕ) (v : V) → get_elem? s.views id ≡ some v → v.stage ≡ Serving t
+      → (get_elem? s.homes 0 ≡ some none) × Rule record { words = s.words; homes = s.homes; views = set s.views id v }
+  exchanged s r id t v at serving = (
+    out_in_turn s r id t v at serving,
+    subst (λ (vs : List V). Rule record { words = s.words; homes = s.homes; views = vs }) (sym (set_again s.views id v at)) r,
+  )
 
   -- the rule, where no word and no view changes
   pub unmoved : (s : St) (r : Rule s) (i id : ℕ) (c : List (ℕ × Option O)) (v : V) → get_elem? s.views id ≡ some v → Rule (stepped s i (get_or s.words i 0) id c v keeps)

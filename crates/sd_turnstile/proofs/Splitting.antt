@@ -6,10 +6,11 @@ use Rattle.atomic_table.specs.Table.{State, Splits}
 use Rattle.atomic_table.proofs.Lists.{at_longer}
 use Rattle.sd_turnstile.specs.declared.view.Stage.TheVariants.{Idle}
 use Rattle.sd_turnstile.specs.declared.view.View.{View}
+use Rattle.sd_turnstile.specs.History.{calls_by}
 use Rattle.sd_turnstile.specs.Order.{tickets, turns, ticket_of, Fits, total, InOrder}
 use Rattle.sd_turnstile.specs.Plays.{first_part, new_part}
-use Rattle.sd_turnstile.proofs.Lists.{at_end, all_set, total-append, total-set, calls_none}
-use Rattle.sd_turnstile.proofs.Ordered.{held_still, apart_still}
+use Rattle.sd_turnstile.proofs.Lists.{at_end, at_less, all_set, total-append, total-set, longer_same, calls_none}
+use Rattle.sd_turnstile.proofs.Ordered.{known_set, held_still, apart_still}
 
 module _ {O E : Type 0} (caller : E → ℕ) (leads : O → List E → O → Type 0) (x0 : O) (seats : ℕ) where
   abbrev Rule : State (Option O) (View E) → Type 0
@@ -18,10 +19,11 @@ module _ {O E : Type 0} (caller : E → ℕ) (leads : O → List E → O → Typ
   abbrev V : Type 0
   V = View E
 
-  pub splits : (id : ℕ) (v : V) → v.stage ≡ Idle → 1 < v.parts → Splits Rule id v (first_part v) (new_part v)
+  pub splits : (id : ℕ) (v : V) → v.stage ≡ Idle → 1 < v.parts → Splits Rule id v (first_part v) (new_part id v)
   splits id v idle more s r at =
       let w : V = first_part v in
-      let n : V = new_part v in
+      let n : V = new_part id v in
+      let known_still = known_set r.history s.views id v w at (λ p k. (omega (arith, more), k)) r.known in
       let vs : List V = set s.views id w in
       let mine = r.each_seat id v at in
       let none_mine : tickets v.stage ≡ 0 = ap tickets idle in
@@ -55,7 +57,8 @@ module _ {O E : Type 0} (caller : E → ℕ) (leads : O → List E → O → Typ
             (all_set (λ j u. Fits caller r.history r.drawn r.served j u) s.views id w
             record {
               begins = mine.begins;
-              heard = mine.heard;
+              told_begins = mine.told_begins;
+              theirs = mine.theirs;
               mine = λ _. mine.mine (omega arith);
               mine_seen = λ _. mine.mine_seen (omega arith);
               live = inr (omega arith);
@@ -66,7 +69,8 @@ module _ {O E : Type 0} (caller : E → ℕ) (leads : O → List E → O → Typ
             (λ j u ne e. r.each_seat j u e))
             record {
               begins = mine.begins;
-              heard = (r.history, refl);
+              told_begins = mine.begins;
+              theirs = ((λ same. absurd (omega (arith, at_less s.views id v at))), ap (calls_by caller id) (longer_same v.seen) ∙ mine.mine_seen (omega arith));
               mine = λ _. r.unmade (length s.views) (omega arith);
               mine_seen = λ _. calls_none caller (length s.views) r.history v.seen mine.begins (r.unmade (length s.views) (omega arith));
               live = inr (omega arith);
@@ -74,6 +78,7 @@ module _ {O E : Type 0} (caller : E → ℕ) (leads : O → List E → O → Typ
               queued = λ z. absurd (omega arith);
               turn = λ z. absurd (omega arith);
             };
+        known = (known_still.0, known_still.1, at_longer vs (n ∷ []) known_still.0 known_still.1 known_still.2, known_still.3, known_still.4);
         unmade = λ j l. r.unmade j (omega (arith, length-append vs (n ∷ [])));
         home = λ z. r.home (omega arith);
         away = λ z. r.away (omega arith);

@@ -3,7 +3,7 @@ use Rattle.std.specs.Prelude.{◌≡◌, ℕ, List, [], ◌∷◌, None}
 use Rattle.sd_turnstile.specs.declared.view.Stage.TheVariants.{Idle, Serving}
 use Rattle.sd_turnstile.specs.declared.seat.Turnstile.{Turnstile}
 use Rattle.sd_turnstile.specs.declared.seat.EntrySeat.{EntrySeat}
-use Rattle.sd_turnstile.specs.History.{StartsWith, calls_by}
+use Rattle.sd_turnstile.specs.History.{calls_by}
 
 module _ {O E : Type 0} where
   -- the object as it was at the opening
@@ -47,9 +47,3 @@ module _ {O E : Type 0} where
   -- in what it has seen, its own entries are just those of its number
   abbrev pub KnowsOwn : (E → ℕ) → EntrySeat O E → Type 0
   KnowsOwn caller s = calls_by caller (number_of s) (seen_by s) ≡ own_of s
-
-  -- The history leads from the object as it was at the opening to this one. It begins with all that the seat has seen, and has of its entries just these
-  pub record LeadsTo (caller : E → ℕ) (leads : O → List E → O → Type 0) (t : Turnstile O E) (s : EntrySeat O E) (history : List E) (object : O) : Type 0 where
-    pub legal : leads (opening_of t) history object
-    pub begins : StartsWith history (seen_by s)
-    pub mine : calls_by caller (number_of s) history ≡ own_of s

@@ -1,6 +1,6 @@
 //! How a turnstile begins and ends.
 ghost use Rattle.std.specs.Prelude.{◌≡◌, ◌↔◌, ℕ, ◌<◌, List, [], ◌∷◌, Some, IfOk, IfErr, IsOk};
-ghost use Rattle.sd_turnstile.specs.Seats.{opening_of, seats_of, number_of, parts_of, seen_by, own_of, IsSeatOf, IsIdle, LeadsTo};
+ghost use Rattle.sd_turnstile.specs.Seats.{opening_of, seats_of, number_of, parts_of, seen_by, own_of, IsSeatOf, IsIdle, KnowsOwn};
 
 use crate::held::Held;
 use crate::order::Opening;
@@ -52,12 +52,13 @@ impl<O: Held> Turnstile<O> {
         }
     }
 
-    /// The object, at the end of one history that begins with all that the seat has seen. Where the seat hasn't all parts, both come back.
+    /// The object, where all that the seat has seen leads: nobody else has an entry that it hasn't seen. Where the seat hasn't all parts, both come back.
     pub fn close(self, seat: Seat<O>) -> Result<O, (Turnstile<O>, Seat<O>)>
         requires seat { IsSeatOf self seat }
         requires idle { IsIdle seat }
         ensures closed { IsOk result ↔ (parts_of seat ≡ seats_of self) }
-        ensures object { IfOk result (λ x. (history : List O.Entry) × LeadsTo O.caller O.leads self seat history x) }
+        ensures object { IfOk result (λ x. O.leads (opening_of self) (seen_by seat) x) }
+        ensures mine { IfOk result (λ _. KnowsOwn O.caller seat) }
         ensures refused { IfErr result (λ e. (e.0 ≡ self) × (e.1 ≡ seat)) }
     {
         if !self.has_all_parts(&seat) {

@@ -8,7 +8,7 @@ use crate::view::View;
 use atomic_table::{Join, Play, Split};
 use std::marker::{Brand, PhantomData};
 
-/// What a step is told, for the proof alone: the seat's number, the object as it was at the opening, and the entry of a turn that ends.
+/// What a step is told, for the proof alone: a seat's number, the object as it was at the opening, and the entry of a turn that ends.
 /// A call at `Brand` chooses it.
 pub(crate) trait Told<O, E> {
     ghost number: { ℕ };
@@ -24,6 +24,15 @@ impl<O, E> Told<O, E> for Brand {
     ghost start = { None };
 
     ghost entry = { None };
+}
+
+/// The number of a seat, for the proof alone. A call at `Brand` chooses it.
+pub(crate) trait Numbered {
+    ghost number: { ℕ };
+}
+
+impl Numbered for Brand {
+    ghost number = { 0 };
 }
 
 /// A ticket is drawn.
@@ -51,20 +60,24 @@ impl<O: Held, W: Told<O, O::Entry>> Play<Option<O>, View<O::Entry>> for Advance<
     ghost then = { advanced W.entry };
 }
 
-/// A seat is split.
-pub(crate) struct SplitOff;
-
-impl<E> Split<View<E>> for SplitOff {
-    ghost left = { first_part };
-
-    ghost right = { new_part };
+/// A seat, whose number is told, is split.
+pub(crate) struct SplitOff<W> {
+    told: PhantomData<W>,
 }
 
-/// A seat takes another in.
-pub(crate) struct TakeIn;
+impl<E, W: Numbered> Split<View<E>> for SplitOff<W> {
+    ghost left = { first_part };
 
-impl<E> Join<View<E>> for TakeIn {
-    ghost both = { with_both };
+    ghost right = { new_part W.number };
+}
+
+/// A seat takes another in, whose number is told.
+pub(crate) struct TakeIn<W> {
+    told: PhantomData<W>,
+}
+
+impl<E, W: Numbered> Join<View<E>> for TakeIn<W> {
+    ghost both = { with_both W.number };
 
     ghost spent = { spent };
 }

@@ -1,5 +1,5 @@
 //! The turnstile, and its seats.
-ghost use Rattle.std.specs.Prelude.{◌≡◌, ◌↔◌, ◌<◌, IsTrue};
+ghost use Rattle.std.specs.Prelude.{◌≡◌, ◌↔◌, ◌<◌, IsTrue, None};
 
 use crate::held::Held;
 use crate::order::{Opening, TakesTurns};
@@ -20,13 +20,14 @@ pub struct Turnstile<O: Held> {
     ghost sized: { (table.shared.table_id.words ≡ 2) × (table.shared.table_id.slots ≡ 1) × (table.shared.key.seats ≡ seats) },
 }
 
-/// The right to take turns at an object whose entries are `E`.
+/// The right to take turns at an object whose entries are `E`. Between two calls it has seen all that it was told.
 ///
 /// A seat that is let go takes its parts with it, so that the turnstile can't be closed. One that is let go in its turn keeps the object, and all others wait.
 pub struct EntrySeat<O, E> {
     pub(crate) place: atomic_table::Seat<Option<O>, View<E>>,
     pub(crate) parts: u32,
     ghost counted: { (place.me.0.parts ≡ parts) × (0 < parts) },
+    ghost settled: { place.me.0.told ≡ None },
 }
 
 /// The right to take turns at an object.

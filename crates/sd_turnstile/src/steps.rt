@@ -63,7 +63,7 @@ impl<O: Held> Turnstile<O> {
         requires entry { IsBy O.caller place.old.id W.entry }
         requires legal { O.leads (opening_of self.now) (place.old.me.0.seen ++ entries W.entry) object }
         ensures same { (place.new.table_id ≡ place.old.table_id) × (place.new.id ≡ place.old.id) }
-        ensures done { let v = place.old.me.0 in place.new.me ≡ (view v.parts (v.seen ++ entries W.entry) (v.own ++ entries W.entry) v.told Idle, []) }
+        ensures done { let v = place.old.me.0 in place.new.me ≡ (view v.parts (v.seen ++ entries W.entry) (v.own ++ entries W.entry) None Idle, []) }
     {
         let shared = &self.table.shared;
         let_go(shared.exchange(place, 0, Some(object)));

@@ -11,6 +11,16 @@ pub enum Stage {
     Serving(u64),
 }
 
+/// What another seat knew. No value of it is made.
+pub struct Known<E> {
+    /// The number of that seat.
+    pub by: u64,
+    /// The beginning of the history that it had seen.
+    pub seen: LinkedList<E>,
+    /// Its own entries.
+    pub own: LinkedList<E>,
+}
+
 /// What a seat knows. No value of it is made.
 pub struct View<E> {
     /// How many parts of the turnstile it has.
@@ -19,7 +29,7 @@ pub struct View<E> {
     pub seen: LinkedList<E>,
     /// Its own entries.
     pub own: LinkedList<E>,
-    /// What a seat had seen that it took in. It is compared with `seen` at the next look.
-    pub told: LinkedList<E>,
+    /// What another seat knew: the one that it was split off from, or one that it took in. It is compared with `seen` at the next look.
+    pub told: Option<Known<E>>,
     pub stage: Stage,
 }

@@ -10,11 +10,11 @@ use Rattle.sd_services.specs.NfsCalls.{is_swap_access}
 use Rattle.sd_stable_disk.specs.declared.errors.OpenError.{OpenError}
 use Rattle.sd_server.specs.declared.replies.Replies.{Replies}
 use Rattle.sd_server.specs.State.{State, ticked}
-use Rattle.sd_server.specs.Standing.{ServerView, MayBe, IsEither, Turns, Ticks, Goes}
+use Rattle.sd_server.specs.Standing.{ServerView, MayBe, IsEither, Turns, Ticks, Goes, damaged_by}
 use Rattle.sd_server.specs.Ticks.{after_tick, sent_at, Ascending}
 use Rattle.sd_server.specs.Turns.{recovers}
 use Rattle.sd_workers.specs.declared.account.Event.TheVariants.{Served, Ticked}
-use Rattle.sd_workers.specs.Entries.{entry, MaySettle}
+use Rattle.sd_workers.specs.Entries.{entry, memory_of, MaySettle}
 use Rattle.sd_workers.specs.Legal.{Leads}
 
 -- Settle stands only before a READ or WRITE that found the store down
@@ -42,9 +42,10 @@ module _ {D : Type 0} (seen : D → Option (List ℕ)) (may_leave : D → List �
       → faults y.store.disk ≤ faults z.store.disk
       → (r.faulted ≡ true → Rose (faults y.store.disk) (faults z.store.disk))
       → (r.faulted ≡ false → r.damaged ≡ None → faults z.store.disk ≡ faults y.store.disk)
+      → r.damaged ≡ damaged_by (is_swap_access y.config packet) y.store.up z.store.refusal
       → (IsSome (files seen y.store) → r.damaged ≡ None)
       → Leads seen may_leave faults y (entry by now (Served packet) r before after ∷ []) z
-  served y z by now packet r before after b a config turns goes later cause calm told =
+  served y z by now packet r before after b a config turns goes later cause calm place told =
       subst (λ (n : ℕ × ℕ). Leads seen may_leave faults y (entry by now (Served packet) r n.0 n.1 ∷ []) z) (λ i. (sym b i, sym a i))
       record {
         config = config;
@@ -69,7 +70,7 @@ module _ {D : Type 0} (seen : D → Option (List ℕ)) (may_leave : D → List �
                 ),
               ),
             );
-        memory = (refl, (z.volatile, record { goes = goes; later = later; cause = cause; calm = calm }, (refl, refl)));
+        memory = (refl, (memory_of z, record { goes = goes; place = place; later = later; cause = cause; calm = calm }, (refl, refl)));
       }
 
   pub ticked_once : (y z : ServerView D) (by now : ℕ) (r : Replies) (before after : ℕ)
@@ -108,10 +109,10 @@ module _ {D : Type 0} (seen : D → Option (List ℕ)) (may_leave : D → List �
         memory = (
           refl,
           (
-            z.volatile,
+            memory_of z,
             record {
               out_is = packets;
-              next_is = ap (λ (v : ServerView D). v.volatile) after_is;
+              next_is = ap (λ (v : ServerView D). memory_of v) after_is;
               unfaulted = calm.0;
               sound = calm.1;
               calm = same;

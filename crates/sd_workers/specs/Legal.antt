@@ -2,10 +2,10 @@
 use Rattle.std.specs.Prelude.{◌≡◌, ℕ, List, [], ◌∷◌, ◌++◌, Option}
 use Rattle.std.proofs.Common.{refl, sym, subst, ◌∙◌}
 use Rattle.sd_config.specs.declared.config.Config.{Config}
-use Rattle.sd_server.specs.State.{State, Volatile}
+use Rattle.sd_server.specs.State.{State}
 use Rattle.sd_server.specs.Standing.{ServerView, MayBe}
 use Rattle.sd_workers.specs.declared.account.Entry.{Entry}
-use Rattle.sd_workers.specs.Entries.{Moves, MovesInMemory}
+use Rattle.sd_workers.specs.Entries.{Memory, memory_of, Moves, MovesInMemory}
 
 -- The entries, in order, lead from s with the count n to s2 with the count m. The counts join on.
 abbrev pub Chain : {S : Type 0} → (Entry → S → S → Type 0) → S → ℕ → List Entry → S → ℕ → Type 0
@@ -21,7 +21,7 @@ abbrev pub legal : Config → State → ℕ → List Entry → State → ℕ →
 legal c s n history s2 m = Chain (Moves c) s n history s2 m
 
 -- a history of what a server holds in memory
-abbrev pub legal_in_memory : Config → Volatile → ℕ → List Entry → Volatile → ℕ → Type 0
+abbrev pub legal_in_memory : Config → Memory → ℕ → List Entry → Memory → ℕ → Type 0
 legal_in_memory c old n history new m = Chain (MovesInMemory c) old n history new m
 
 module _ {D : Type 0} (seen : D → Option (List ℕ)) (may_leave : D → List ℕ → Type 0) (faults : D → ℕ) where
@@ -30,7 +30,7 @@ module _ {D : Type 0} (seen : D → Option (List ℕ)) (may_leave : D → List �
   pub record Leads (x : ServerView D) (history : List Entry) (y : ServerView D) : Type 0 where
     pub config : y.config ≡ x.config
     pub states : (s : State) → MayBe seen may_leave x s → (s2 : State) × MayBe seen may_leave y s2 × legal x.config s (faults x.store.disk) history s2 (faults y.store.disk)
-    pub memory : legal_in_memory x.config x.volatile (faults x.store.disk) history y.volatile (faults y.store.disk)
+    pub memory : legal_in_memory x.config (memory_of x) (faults x.store.disk) history (memory_of y) (faults y.store.disk)
 
   pub leads_nowhere : (x : ServerView D) → Leads x [] x
   leads_nowhere x = record { config = refl; states = λ s is. (s, is, (refl, refl)); memory = (refl, refl) }
@@ -48,6 +48,6 @@ module _ {D : Type 0} (seen : D → Option (List ℕ)) (may_leave : D → List �
                   (subst (λ (c : Config). legal c a.0 (faults y.store.disk) fs b.0 (faults z.store.disk)) h.config b.2),
             );
         memory =
-            chain_on (MovesInMemory x.config) x.volatile y.volatile z.volatile (faults x.store.disk) (faults y.store.disk) (faults z.store.disk) es fs h.memory
-            (subst (λ (c : Config). legal_in_memory c y.volatile (faults y.store.disk) fs z.volatile (faults z.store.disk)) h.config k.memory);
+            chain_on (MovesInMemory x.config) (memory_of x) (memory_of y) (memory_of z) (faults x.store.disk) (faults y.store.disk) (faults z.store.disk) es fs h.memory
+            (subst (λ (c : Config). legal_in_memory c (memory_of y) (faults y.store.disk) fs (memory_of z) (faults z.store.disk)) h.config k.memory);
       }

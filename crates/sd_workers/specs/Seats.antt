@@ -62,15 +62,11 @@ module _ {D : Type 0} {G : Ghosts D} where
   abbrev pub MadeNoCall : HallSeat D G → HallSeat D G → Type 0
   MadeNoCall old new = StartsWith (seen_by new) (seen_by old) × (own_of new ≡ own_of old)
 
-  -- What the seat has seen is one legal history from the opening. Of its own calls it has just those that it made, each once.
-  pub record HasSeen (seen : D → Option (List ℕ)) (may_leave : D → List ℕ → Type 0) (faults : D → ℕ) (hall : Hall D) (s : HallSeat D G) : Type 0 where
-    pub server : ServerView D
+  -- What the seat has seen is one legal history from the opening to this server. Of its own calls it has just those that it made, each once.
+  pub record HasSeenTo (seen : D → Option (List ℕ)) (may_leave : D → List ℕ → Type 0) (faults : D → ℕ) (hall : Hall D) (s : HallSeat D G) (server : ServerView D) : Type 0 where
     pub legal : Leads seen may_leave faults (opened_with hall) (seen_by s) server
     pub mine : calls_by (λ e. e.by) (number_of s) (seen_by s) ≡ own_of s
 
-  -- One legal history leads from the opening to this server. It begins with all that the seat has seen, and has of its own calls just those that it made, each once.
-  pub record Ends (seen : D → Option (List ℕ)) (may_leave : D → List ℕ → Type 0) (faults : D → ℕ) (hall : Hall D) (s : HallSeat D G) (server : ServerView D) : Type 0 where
-    pub history : List Entry
-    pub legal : Leads seen may_leave faults (opened_with hall) history server
-    pub begins : StartsWith history (seen_by s)
-    pub mine : calls_by (λ e. e.by) (number_of s) history ≡ own_of s
+  -- it is one to some server
+  abbrev pub HasSeen : (D → Option (List ℕ)) → (D → List ℕ → Type 0) → (D → ℕ) → Hall D → HallSeat D G → Type 0
+  HasSeen seen may_leave faults hall s = (server : ServerView D) × HasSeenTo seen may_leave faults hall s server

@@ -16,22 +16,24 @@ leave-requires-clause-legal g c κs within =
 pub returns-in-Ok-clause-legal : goal.returns-in-Ok-clause-legal
 returns-in-Ok-clause-legal g c =
     let d = g.D.Disk in
-    let e = c.tick.ensures in
-    record {
-      server = c.tick.new.self;
-      legal = subst (λ (l : List Entry). Leads d.seen d.may_leave d.faults (opening_of c.args.self.now.turnstile).server l c.tick.new.self) (sym c.leave.ensures.seen)
-          (leads_on d.seen d.may_leave d.faults _ _ _ (seen_by c.enter-server.new.seat) _ c.enter-server.ensures.legal
-          (ticked_once d.seen d.may_leave d.faults _ _ (number_of c.enter-server.new.seat) c.args.now c.in-Ok.replies _ _
-          (ap (λ v. d.faults v.store.disk) c.of-before.ensures) (ap (λ v. d.faults v.store.disk) c.of-after.ensures) c.in-Ok.ensures.sessions c.in-Ok.ensures.packets c.in-Ok.ensures.ticks e.ascending c.in-Ok.ensures.calm));
-      mine = c.leave.ensures.mine c.enter-server.ensures.mine;
-    }
+    let e = c.tick.ensures in (
+      c.tick.new.self,
+      record {
+        legal = subst (λ (l : List Entry). Leads d.seen d.may_leave d.faults (opening_of c.args.self.now.turnstile).server l c.tick.new.self) (sym c.leave.ensures.seen)
+            (leads_on d.seen d.may_leave d.faults _ _ _ (seen_by c.enter-server.new.seat) _ c.enter-server.ensures.legal
+            (ticked_once d.seen d.may_leave d.faults _ _ (number_of c.enter-server.new.seat) c.args.now c.in-Ok.replies _ _
+            (ap (λ v. d.faults v.store.disk) c.of-before.ensures) (ap (λ v. d.faults v.store.disk) c.of-after.ensures) c.in-Ok.ensures.sessions c.in-Ok.ensures.packets c.in-Ok.ensures.ticks e.ascending c.in-Ok.ensures.calm));
+        mine = c.leave.ensures.mine c.enter-server.ensures.mine;
+      },
+    )
 
 pub returns-in-Err-clause-legal : goal.returns-in-Err-clause-legal
 returns-in-Err-clause-legal g c =
-    let d = g.D.Disk in
-    record {
-      server = c.enter-server.result.server;
-      legal = subst (λ (l : List Entry). Leads d.seen d.may_leave d.faults (opening_of c.args.self.now.turnstile).server l c.enter-server.result.server)
-          (sym (c.leave-in-Err.ensures.seen ∙ append-nil (seen_by c.enter-server.new.seat))) c.enter-server.ensures.legal;
-      mine = c.leave-in-Err.ensures.mine c.enter-server.ensures.mine;
-    }
+    let d = g.D.Disk in (
+      c.enter-server.result.server,
+      record {
+        legal = subst (λ (l : List Entry). Leads d.seen d.may_leave d.faults (opening_of c.args.self.now.turnstile).server l c.enter-server.result.server)
+            (sym (c.leave-in-Err.ensures.seen ∙ append-nil (seen_by c.enter-server.new.seat))) c.enter-server.ensures.legal;
+        mine = c.leave-in-Err.ensures.mine c.enter-server.ensures.mine;
+      },
+    )
